@@ -29,6 +29,9 @@
 #include <stddef.h>
 #include <stdint.h>
 
+/* The version, as CHANGELOG.md has it. */
+#define ZEMIRAKO_VERSION "0.2.0"
+
 #ifdef __cplusplus
 extern "C" {
 #endif

@@ -2,7 +2,7 @@
 # Runs the built program where the system itself fails, and compares each status with the one that is stated:
 # tools/edges.sh [PROGRAM]. Ends with 1 where one differs.
 cd "$(dirname "$0")/.." || exit 2
-program=$(realpath "${1:-crates/wcrun/out/wcrun}") || exit 2
+program=$(realpath "${1:-$(tools/program)}") || exit 2
 script=$(realpath demo/ordinary.json)
 work=$(mktemp -d) || exit 2
 trap 'rm -rf "$work"' EXIT

@@ -6,7 +6,7 @@
 # the system's own reading wanted memory. Prints a row for each script. Needs gcc and python3.
 # tools/fail-allocations.sh [PROGRAM]
 cd "$(dirname "$0")/.." || exit 2
-program=$(realpath "${1:-crates/wcrun/out/wcrun}") || exit 2
+program=$(realpath "${1:-$(tools/program)}") || exit 2
 work=$(mktemp -d) || exit 2
 trap 'rm -rf "$work"' EXIT
 cat > "$work/fail.c" <<'C'

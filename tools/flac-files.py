@@ -84,9 +84,10 @@ def decoded(coded, wave, depth):
 
 def main():
     parser = argparse.ArgumentParser(description=__doc__.splitlines()[0])
-    parser.add_argument("--program", default="crates/wcrun/out/wcrun")
+    parser.add_argument("--program", help="the program that tools/program names, where it is left out")
     parser.add_argument("--most", type=int, default=2000, help="the most frames of a file")
     options = parser.parse_args()
+    program = options.program or subprocess.check_output([os.path.join(HERE, "program")], text=True).strip()
     files = frames_in_all = samples = bad = 0
     with tempfile.TemporaryDirectory() as work:
         flac_frames.cases(f"{work}/cases", keep=True)
@@ -97,7 +98,7 @@ def main():
                 continue
             number, kind, channels, depth = name[: -len(".flac")].split("-")
             write_script(work, description, frames)
-            run = subprocess.run([os.path.realpath(options.program), "replay", "script.json"], cwd=work, capture_output=True, text=True)
+            run = subprocess.run([os.path.realpath(program), "replay", "script.json"], cwd=work, capture_output=True, text=True)
             shapes, ours = shown(run.stdout)
             theirs = decoded(coded, f"{work}/it.wav", int(depth))
             form = "s16" if int(depth) <= 16 else "s32"

@@ -49,7 +49,7 @@ def changes(content, count, seed):
 
 
 def main():
-    program = os.path.realpath(sys.argv[1] if len(sys.argv) > 1 else os.path.join(TOP, "crates/wcrun/out/wcrun"))
+    program = os.path.realpath(sys.argv[1]) if len(sys.argv) > 1 else subprocess.check_output([os.path.join(TOP, "tools", "program")], text=True).strip()
     count = int(sys.argv[2]) if len(sys.argv) > 2 else 10000
     script = open(SCRIPT, "rb").read()
     chunks = open(CHUNKS, "rb").read()

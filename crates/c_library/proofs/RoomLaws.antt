@@ -1,22 +1,21 @@
 -- How many bytes the frame of a block has at most.
-use Rattle.flac_subframes.specs.Candidates.{candidate_bits, best_candidate}
+use Rattle.flac_definitions.specs.Candidates.{candidate_bits, best_candidate}
 use Rattle.std.proofs.Common.{ℕ, zero, suc, ℤ, ◌≡◌, ◌≤◌, ◌+◌, ◌-◌, ◌*◌, ◌/◌, ◌%◌, ◌^◌, Bool, List, ◌++◌, length, drop, refl, ap, sym, subst, ◌∙◌, arith, length-append, length-take}
 use Rattle.std.specs.Prelude.{sum_by}
 use Rattle.std.specs.List.{range_with_len}
 use Rattle.std.proofs.Math.Nat.{mul-le-mul_left, suc-mul}
 use Rattle.std.proofs.lemmas.Bool.Decides.{nat_tests}
 use Rattle.std.proofs.lemmas.List.Sums.{sum_by-cons}
-use Rattle.flac_definitions.specs.Bits.{bits_in, bits_of}
+use Rattle.flac_definitions.specs.Bits.{bits_in, bits_of, bits_to_byte}
 use Rattle.flac_definitions.specs.BitLaws.{length-bits_in, length-bits_of}
 use Rattle.flac_definitions.specs.Sums.{bits_sum}
 use Rattle.flac_definitions.specs.declared.header.FrameHeader.{FrameHeader}
-use Rattle.flac_write.specs.Header.{further_bits, further_count, long_number_bits, number_bits, size_bits, block_size_code, code_bits, front_bits, header_bits}
-use Rattle.flac_write.specs.Writer.{bits_to_byte}
+use Rattle.flac_definitions.specs.HeaderWriting.{further_bits, further_count, long_number_bits, number_bits, size_bits, block_size_code, code_bits, front_bits, header_bits}
 use Rattle.flac_blocks.specs.CodedLaws.{few_bits, plain_depth}
-use Rattle.flac_blocks.specs.Frames.{header_of, channels_spelled, padded, frame_bits}
-use Rattle.flac_blocks.specs.Modes.{channel_of, coded_of, channel_bits, mode_bits, best_mode, IsFormat}
-use Rattle.flac_blocks.specs.declared.mode.BlockFormat.{BlockFormat}
-use Rattle.flac_blocks.specs.declared.mode.ChannelMode.TheVariants.{Independent}
+use Rattle.flac_definitions.specs.FrameWriting.{header_of, channels_spelled, padded, frame_bits}
+use Rattle.flac_definitions.specs.Modes.{channel_of, coded_of, channel_bits, mode_bits, best_mode, IsFormat}
+use Rattle.flac_definitions.specs.declared.mode.BlockFormat.{BlockFormat}
+use Rattle.flac_definitions.specs.declared.mode.ChannelMode.TheVariants.{Independent}
 use Rattle.flac_block_laws.specs.Laws.{WrittenFramesAreRead}
 
 further_most : (n : ℕ) → further_count n ≤ 5

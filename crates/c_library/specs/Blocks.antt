@@ -1,9 +1,9 @@
 -- Blocks of FLAC as C sees them.
 use Rattle.std.specs.Prelude.{ℕ, ℤ, ◌≡◌, ◌<◌, ◌≤◌, ◌+◌, ◌*◌, ◌/◌, ◌^◌, ◌==◌, ◌||◌, List, length, IsTrue}
 use Rattle.flac_definitions.specs.Bits.{bits_in}
-use Rattle.flac_blocks.specs.Modes.{IsFormat, IsBlock}
-use Rattle.flac_blocks.specs.Frames.{frame_bits}
-use Rattle.flac_blocks.specs.declared.mode.BlockFormat.{BlockFormat}
+use Rattle.flac_definitions.specs.Modes.{IsFormat, IsBlock}
+use Rattle.flac_definitions.specs.FrameWriting.{frame_bits}
+use Rattle.flac_definitions.specs.declared.mode.BlockFormat.{BlockFormat}
 use Rattle.c_library.specs.declared.blocks.FlacFormat.{FlacFormat}
 use Rattle.c_library.specs.Status.{done, no_memory, too_small, invalid, fill_status, filled}
 

@@ -1,7 +1,7 @@
 -- Descriptions of FLAC streams, as C sees them.
 use Rattle.std.specs.Prelude.{ℕ, Bool, true, ◌≡◌, ◌&&◌, ◌||◌, ◌==◌, nat_le, IsTrue, List, Option, Some, None}
 use Rattle.flac_definitions.specs.Bits.{bits_in}
-use Rattle.flac_description.specs.Descriptions.{CanBeWritten, description_bits}
+use Rattle.flac_definitions.specs.Descriptions.{CanBeWritten, description_bits}
 use Rattle.wc_config.specs.Streams.{is_usable, streaminfo_of}
 use Rattle.wc_config.specs.declared.stream_info.StreamInfo.{StreamInfo}
 use Rattle.c_library.specs.declared.description.FlacDescription.{FlacDescription}

@@ -1,6 +1,6 @@
 // Blocks of FLAC, coded.
 ghost use Rattle.std.specs.Prelude.{◌≡◌, ◌<◌, ◌^◌, ◌⊎◌, true, false};
-ghost use Rattle.flac_blocks.specs.Modes.{IsFormat, IsBlock};
+ghost use Rattle.flac_definitions.specs.Modes.{IsFormat, IsBlock};
 ghost use Rattle.c_library.specs.Blocks.{format_of, IsCoded, CanBeCoded, IsBlockStatus, IsRoom, most_bytes};
 ghost use Rattle.c_library.specs.Frames.{HasValues};
 ghost use Rattle.c_library.specs.Status.{done, no_memory, too_small, invalid};

@@ -10,16 +10,14 @@ use Rattle.codec_model.specs.declared.entry.Ended.TheVariants as ended
 use Rattle.codec_model.specs.declared.entry.Entry.{Entry}
 use Rattle.codec_model.specs.declared.entry.Item.{Item}
 use Rattle.codec_model.specs.declared.entry.Outcome.TheVariants as outcome
-use Rattle.codec_model.specs.declared.entry.Removal.{Removal}
-use Rattle.codec_model.specs.declared.entry.Removal.TheVariants as removal
 use Rattle.codec_model.specs.declared.entry.Running.{Running}
 use Rattle.codec_model.specs.declared.entry.Task.{Task}
 use Rattle.codec_model.specs.declared.entry.Task.TheVariants as task
 use Rattle.codec_model.specs.declared.entry.Work.{Work}
 use Rattle.codec_model.specs.Control.{Control, at_next_place, process_queue, is_close, kind_of, may_start, front, start_item, after_end, done_running}
-use Rattle.codec_model.specs.Replay.{State, step, missing_coder, removal_error, call_error, after_call, accepted, ended_of, remove_or_refuse, removal_step, call_step}
+use Rattle.codec_model.specs.Replay.{State, step, missing_coder, accepted, ended_of, removed}
 use Rattle.codec_model.specs.Held.{closes_codec}
-use Rattle.codec_model.specs.StepLaws.{EachStep, by_steps, by_call, by_removal, by_items, begins_free, begun, task_ran, Sends, asked, work_of, call_sends, encode_sends, lacking_may_be_refused}
+use Rattle.codec_model.specs.StepLaws.{EachStep, by_steps, by_removals, by_items, begins_free, begun, task_ran, Sends, asked, call_sends, lacking_may_be_refused, refused_stays, sent_stays, removal_goes}
 use Rattle.codec_accounts.specs.Boxes.{Act, Asks, Begins, Ends, Removes, Other, lacking, start_act, removal_act, act_of}
 
 -- the running item and the epoch stay
@@ -64,10 +62,6 @@ sent_same w c d k =
     let h = process_same (record before { messages = before.messages ++ record { place = c.place; work = w } ∷ [] }) in
     rw k.is (record { running = h.running; epoch = h.epoch })
 
-call_same : (o : Option DomError) (x : Call) (c : Control) → SameRun c (after_call o x c)
-call_same None x c = sent_same (work_of x) c (accepted x c) (call_sends x c)
-call_same (Some error) x c = record { running = refl; epoch = refl }
-
 -- ---- entries
 
 -- a task that does not close the codec keeps both; one that closes it begins a new epoch
@@ -77,10 +71,9 @@ task_makes task.Desaturate ts s = let k = process_same (record (at_next_place s.
 task_makes (task.Close x) ts s = (record { running = refl; given = refl }, add-one s.control.epoch)
 task_makes x ts s = (record { running = refl; given = refl }, refl)
 
-removal_makes : (o : Option DomError) (r : Removal) (s : State) → ActMakes (removal_act (is_none o)) s (remove_or_refuse o r s)
-removal_makes None removal.Reset s = (record { running = refl; given = refl }, add-one s.control.epoch)
-removal_makes None removal.Close s = (record { running = refl; given = refl }, add-one s.control.epoch)
-removal_makes (Some error) r s = (record { running = refl; given = refl }, refl)
+-- a call that removes nothing, and one that removes all
+stays_as : (b : Bool) (s t : State) → b ≡ false → ActMakes Other s t → ActMakes (removal_act b) s t
+stays_as b s t none h = rw none h
 
 start_makes : (i : Item) (is : List Item) (s : State) → s.control.work ≡ i ∷ is → may_start s.control ≡ true → ActMakes (start_act (lacking s.given (start_item s.control))) s (begun (i ∷ is) i s)
 start_makes i is s work may =
@@ -115,14 +108,10 @@ same h given = (record { running = h.running; given = given }, h.epoch)
 
 each_makes : EachStep (λ e s t. ActMakes (act_of e s) s t)
 each_makes = record {
-  call = λ who x s.
-      let k : ActMakes Other s (call_step x s) = same (call_same (call_error x s.control) x s.control) refl in
-      by_call (λ e. ActMakes (act_of e s) s (call_step x s)) who (λ config. k) (λ chunk. k) k x;
-  gone = λ who s. (record { running = refl; given = refl }, refl);
-  kept = λ who s off. (record { running = refl; given = refl }, refl);
-  cloned = λ who x s on. same (sent_same _ s.control _ (encode_sends x s.control)) refl;
-  remove = λ who r s. let k = removal_makes (removal_error s.control) r s in by_removal (λ e. ActMakes (act_of e s) s (removal_step r s)) who k k r;
-  take = λ who unit s may. (record { running = refl; given = refl }, refl);
+  refused = λ who x error s may e. stays_as _ s _ (refused_stays who x error s e) (record { running = refl; given = refl }, refl);
+  sent = λ who x w s m may e. stays_as _ s _ (sent_stays who x w s m) (same (sent_same w s.control _ (call_sends x w s.control m)) refl);
+  removes_all = λ who x s is e. rw (removal_goes who x s is e) (by_removals (λ y. ActMakes (removal_act true) s (removed (accepted y s.control) s)) (record { running = refl; given = refl }, add-one s.control.epoch) (record { running = refl; given = refl }, add-one s.control.epoch) x is);
+  takes = λ who unit s may. (record { running = refl; given = refl }, refl);
   start = λ i is epoch item s work may. start_makes i is s work (begins_free epoch item i s.control may);
   done = λ r e epoch item moment o s running own is. (ap is_some running, end_runs r e moment (at_next_place s.control));
   turn = λ x ts s first. subst (λ (l : List Task). ActMakes (removal_act (closes_codec l)) s (task_ran x ts s)) (sym first) (task_makes x ts s);

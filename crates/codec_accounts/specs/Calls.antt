@@ -8,13 +8,7 @@ use Rattle.codec_accounts.specs.Owed.{owed}
 
 -- the caller whose call an entry keeps, with its step
 abbrev pub who_of : Entry → Option Who
-who_of (entry.Configure who config) = Some who
-who_of (entry.Decode who chunk) = Some who
-who_of (entry.Encode who handed) = Some who
-who_of (entry.Flush who) = Some who
-who_of (entry.Reset who) = Some who
-who_of (entry.Close who) = Some who
-who_of (entry.Take who unit) = Some who
+who_of (entry.Call who x) = Some who
 who_of (entry.Start epoch item) = None
 who_of (entry.Done epoch item moment o) = None
 who_of entry.Turn = None

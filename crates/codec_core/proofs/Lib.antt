@@ -3,4 +3,5 @@ pub mod Ends
 pub mod Outputs
 pub mod Steps
 pub mod Recorded
+mod Replies
 pub mod Owning

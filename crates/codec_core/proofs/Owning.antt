@@ -1,22 +1,26 @@
 -- Whose box a codec's box is, entry after entry.
 use Rattle.std.proofs.Common.{ℕ, ◌≡◌, not, Bool, true, false, eqb, cond, List, [], ◌∷◌, ◌++◌, length, Option, Some, None, is_some, refl, ap, sym, subst, ◌∙◌}
 use Rattle.std.specs.Prelude.{unwrap_or, IfSome}
-use Rattle.wc_base.specs.declared.who.By.{By}
+use Rattle.wc_base.specs.declared.{who.By.By, who.Who.Who}
 use Rattle.wc_config.specs.declared.codec.CoderId.{CoderId}
 use Rattle.coder_api.specs.Lent.{Lent}
-use Rattle.codec_model.specs.declared.entry.{Opening.Opening, Entry.Entry, Running.Running, Task.Task}
+use Rattle.codec_model.specs.declared.entry.{Opening.Opening, Call.Call, Entry.Entry, Running.Running, Task.Task}
 use Rattle.codec_model.specs.Control.{Control, start_item, turn_closes}
 use Rattle.codec_model.specs.Replay.{State, opening_state, step, replay}
-use Rattle.codec_model.specs.{ShownLaws.replay_more, Held.closes_codec}
+use Rattle.codec_model.specs.{ShownLaws.replay_more, Held.closes_codec, Held.is_removal}
 use Rattle.codec_accounts.specs.Boxes.{Act, Ends, Other, Kept, stays, act_of, lacking, start_act, removal_act, acts_of}
 use Rattle.codec_accounts.specs.{Codec.is_old, ActLaws.ActMakes, ActLaws.act_makes}
 use Rattle.codec_accounts.specs.Asked.{Asked, asked_by, asked_in, asked_at}
 use Rattle.codec_accounts.specs.AskedLaws.{IsAsked, step_of, asked_is, asked_more, lets_now, LetsGo}
 use Rattle.codec_core.specs.Job.{JobValue, DoneValue, missing_id, stopped_box, IsEndOf, outcome_of}
-use Rattle.codec_core.specs.Codec.{Codec, state_at, Makes, KeepsRunning, IsBy, IsAskedAt, IsKept, IsCore, RemovedValue, kept_box, handed_back, removed_if}
+use Rattle.codec_core.specs.declared.out.Out.{Out}
+use Rattle.codec_core.specs.Codec.{Codec, state_at, Makes, KeepsRunning, IsBy, IsAskedAt, IsOutOf, IsBack, went_out, IsKept, IsCore, RemovedValue, kept_box, handed_back, removed_if}
 use Rattle.codec_core.specs.Trace.{TraceValue}
-use Rattle.codec_core.proofs.Steps.{Moved, state_is, makes_more}
-use Rattle.codec_core.specs.Owning.{asked_of, IsOwnJob, GoesBack, KeepsAsked}
+use Rattle.codec_core.proofs.Steps.{Moved, kept_more, state_is, makes_more}
+use Rattle.codec_core.specs.Owning.{asked_of, IsOwnJob, GoesBack}
+
+abbrev nothing : Out
+nothing = Out.With None
 
 -- the history before an entry that was made replays to its state
 legal_before : (old new : Codec) (e : Entry) → Makes old new e → replay old.opening old.history ≡ Some (state_at old)
@@ -32,6 +36,10 @@ keeps_running {old = old} {new = new} {e = e} b makes act = by b (subst (λ (a :
     by : (b : Bool) → ActMakes (removal_act b) (state_at old) (state_at new) → KeepsRunning (state_at old) (state_at new)
     by true m = record { same_running = m.0.running; same_given = m.0.given }
     by false m = record { same_running = m.0.running; same_given = m.0.given }
+
+-- no call ends or begins an item
+pub keeps_called : {old new : Codec} {who : Who} {x : Call} → Makes old new (Entry.Call who x) → KeepsRunning (state_at old) (state_at new)
+keeps_called {old = old} {who = who} {x = x} makes = keeps_running (is_removal (Entry.Call who x) (state_at old)) makes refl
 
 -- ---- what entries are to the box
 
@@ -56,7 +64,7 @@ removal_since true runs n x r is = ap (λ (q : Bool). cond q x.since None) (is �
 removal_since false runs n x r is = refl
 
 -- a removal or an entry that lets no box go leaves the box of the item at work
-pub asked_stays : {old new : Codec} {e : Entry} (b : Bool) → Makes old new e → act_of e (state_at old) ≡ removal_act b → KeepsAsked old new
+asked_stays : {old new : Codec} {e : Entry} (b : Bool) → Makes old new e → act_of e (state_at old) ≡ removal_act b → is_some (state_at old).control.running ≡ true → asked_of new ≡ asked_of old
 asked_stays {old = old} {new = new} {e = e} b makes act = λ runs.
     asked_next old new e (removal_act b) makes act
     ∙ removal_since b (is_some (state_at old).control.running) (length old.history) (asked_in (acts_of old.opening old.history)) runs (known old new e makes).runs
@@ -90,16 +98,22 @@ own_stopped : (at : Option ℕ) (slot : Option Lent) → IsAskedAt at (stopped_b
 own_stopped at None own = tt
 own_stopped at (Some lent) own = own
 
-pub job_same : (at : Option ℕ) (a b : Option Lent) → stopped_box b ≡ stopped_box a → IsAskedAt at a → IsAskedAt at b
-job_same at a b is own = own_stopped at b (rw is (stopped_own at a own))
+pub job_same : (o : Out) (a b : Option Lent) → stopped_box b ≡ stopped_box a → IsBack o a → IsBack o b
+job_same (Out.With box) a b is own = is ∙ own
+job_same (Out.Asked place) a b is own = own_stopped (Some place) b (rw is (stopped_own (Some place) a own))
 
 -- whose box a job has that has none where it lacks one
-pub none_asked : (at : Option ℕ) (job : JobValue) → IsOwnJob at job → (is_some (missing_id job) ≡ true → job.coder ≡ None) → IsAskedAt at job.coder
-none_asked at job own none = by (missing_id job) refl
+pub none_asked : (o : Out) (job : JobValue) → IsOwnJob o job → (is_some (missing_id job) ≡ true → job.coder ≡ None) → IsBack o job.coder
+none_asked o job own none = by (missing_id job) refl
   where
-    by : (o : Option CoderId) → missing_id job ≡ o → IsAskedAt at job.coder
+    by : (m : Option CoderId) → missing_id job ≡ m → IsBack o job.coder
     by None is = own.has is
-    by (Some id) is = rw (none (rw is refl)) tt
+    by (Some id) is = let some = ap is_some is in rw (none some, own.asks some) tt
+
+-- a box that comes back is asked for as what went out
+pub back_asked : (o : Out) (at : Option ℕ) (coder : Option Lent) → IsOutOf o at → IsBack o coder → IsAskedAt at coder
+back_asked (Out.With box) at coder lent back = own_stopped at coder (rw back lent)
+back_asked (Out.Asked place) at coder lent back = rw lent back
 
 back_box : (old new : Codec) (e : Entry) (slot : Option Lent) → Makes old new e → (is_some slot ≡ true → LetsGo (act_of e (state_at old)) (state_at old)) → IsAskedAt (asked_of old) slot → GoesBack new (length old.history) slot
 back_box old new e None makes goes own = tt
@@ -136,39 +150,62 @@ back_turn old new b at coder x makes closes home is same answer =
 
 -- ---- of what is kept
 
-module _ {t : TraceValue} {slot : Option Lent} {k : Control} {spare : ℕ} (is : IsCore t slot k spare) where
+module _ {t : TraceValue} {slot : Option Lent} {out : Out} {k : Control} {spare : ℕ} (is : IsCore t slot out k spare) where
   abbrev pub seen : Codec
-  seen = record { opening = k.opening; history = t.entries; spare = spare; slot = slot }
+  seen = record { opening = k.opening; history = t.entries; spare = spare; slot = slot; out = out }
 
   -- the control state of the codec that is seen
   pub control_at : {v : Codec} → seen ≡ v → (state_at v).control ≡ k
-  control_at same = rw (← same, state_is is.kept spare) is.kept.is_control
+  control_at same = rw (← same, state_is is.kept spare out) is.kept.is_control
 
   pub at_home : {v : Codec} → seen ≡ v → AtHome v
-  at_home same = rw (← same) (record { own = is.own; out = λ r e. is.kept.home.out r (rw (state_is is.kept spare) at e) })
+  at_home same = rw (← same) (record { own = is.own; out = λ r e. is.kept.home.out r (rw (state_is is.kept spare out) at e) })
 
 -- the box at home after an entry that moves the history on
 pub own_more : {h : List Entry} {slot next : Option Lent} {k k' : Control} {e : Entry} (kept : IsKept h slot k) (stays : Bool) → Moved next e kept.state k' → act_of e kept.state ≡ removal_act (not stays) → next ≡ kept_box stays slot
     → IsAskedAt (asked_at k.opening h) slot → IsAskedAt (asked_at k'.opening (h ++ e ∷ [])) next
 own_more {h = h} {slot = slot} {next = next} {k = k} {k' = k'} {e = e} kept stays moved act is own =
-    let old : Codec = record { opening = k.opening; history = h; spare = 0; slot = slot } in
-    let new : Codec = record { opening = k'.opening; history = h ++ e ∷ []; spare = 0; slot = next } in
-    let here = ap (act_of e) (state_is kept 0) ∙ act in
-    rw is (own_removal old new e stays (makes_more kept moved 0 0) here own)
+    let old : Codec = record { opening = k.opening; history = h; spare = 0; slot = slot; out = nothing } in
+    let new : Codec = record { opening = k'.opening; history = h ++ e ∷ []; spare = 0; slot = next; out = nothing } in
+    let here = ap (act_of e) (state_is kept 0 nothing) ∙ act in
+    rw is (own_removal old new e stays (makes_more kept moved 0 0 nothing nothing) here own)
 
 -- ---- a start
+
+-- what went out with the item at work stays as it was asked for
+pub out_more : {h : List Entry} {slot next : Option Lent} {k k' : Control} {e : Entry} (out : Out) (kept : IsKept h slot k) (stays_home : Bool) → Moved next e kept.state k' → act_of e kept.state ≡ removal_act (not stays_home)
+    → (is_some k.running ≡ true → IsOutOf out (asked_at k.opening h)) → is_some k'.running ≡ true → IsOutOf out (asked_at k'.opening (h ++ e ∷ []))
+out_more {h = h} {slot = slot} {next = next} {k = k} {k' = k'} {e = e} out kept stays_home moved act lent runs =
+    let old : Codec = record { opening = k.opening; history = h; spare = 0; slot = slot; out = nothing } in
+    let new : Codec = record { opening = k'.opening; history = h ++ e ∷ []; spare = 0; slot = next; out = nothing } in
+    let here = ap (act_of e) (state_is kept 0 nothing) ∙ act in
+    let makes = makes_more kept moved 0 0 nothing nothing in
+    let after = state_is (kept_more kept moved) 0 nothing in
+    let same : (state_at new).control.running ≡ (state_at old).control.running = (keeps_running {old = old} {new = new} {e = e} (not stays_home) makes here).same_running in
+    let ran : is_some (state_at old).control.running ≡ true = ap is_some (sym same) ∙ (ap (λ (s : State). is_some s.control.running) after ∙ (ap (λ (c : Control). is_some c.running) (kept_more kept moved).is_control ∙ runs)) in
+    let before : is_some k.running ≡ true = ap (λ (c : Control). is_some c.running) (sym kept.is_control) ∙ (ap (λ (s : State). is_some s.control.running) (sym (state_is kept 0 nothing)) ∙ ran) in
+    rw (asked_stays {old = old} {new = new} {e = e} (not stays_home) makes here ran) (lent before)
 
 -- a start that lacks a box asks for one, and any other keeps the box
 since_start : (o : Option CoderId) (n : ℕ) (x : Asked) (at : Option ℕ) → at ≡ (asked_by (start_act o) n x).since → (is_some o ≡ true → at ≡ Some n) × (o ≡ None → at ≡ x.since)
 since_start None n x at is = (λ some. absurd cc, λ none. is)
 since_start (Some id) n x at is = (λ some. is, λ none. absurd cc)
 
-pub own_start : (old new : Codec) (job : JobValue) → Makes old new (Entry.Start job.epoch job.number) → missing_id job ≡ lacking (state_at old).given (start_item (state_at old).control)
-    → job.place ≡ length old.history → job.coder ≡ old.slot → IsAskedAt (asked_of old) old.slot → IsOwnJob (asked_of new) job
-own_start old new job makes lacks place coder own =
+-- what went out with the item of a start is as its box was asked for
+pub out_start : (old new : Codec) (job : JobValue) → Makes old new (Entry.Start job.epoch job.number) → missing_id job ≡ lacking (state_at old).given (start_item (state_at old).control)
+    → job.place ≡ length old.history → job.coder ≡ old.slot → IsAskedAt (asked_of old) old.slot → IsOutOf (went_out (is_some (missing_id job)) job.place job.coder) (asked_of new)
+out_start old new job makes lacks place coder own =
     let e = Entry.Start job.epoch job.number in
     let since = since_start (missing_id job) (length old.history) (asked_in (acts_of old.opening old.history)) (asked_of new) (asked_next old new e (start_act (missing_id job)) makes (ap start_act (sym lacks))) in
-    record { asks = λ some. rw place (since.0 some); has = λ none. rw (since.1 none, coder) own }
+    by (missing_id job) refl since
+  where
+    by : (o : Option CoderId) → missing_id job ≡ o → (is_some o ≡ true → asked_of new ≡ Some (length old.history)) × (o ≡ None → asked_of new ≡ (asked_in (acts_of old.opening old.history)).since) → IsOutOf (went_out (is_some o) job.place job.coder) (asked_of new)
+    by None is since = rw (since.1 refl, coder) (stopped_own (asked_of old) old.slot own)
+    by (Some id) is since = rw place (since.0 refl)
+
+-- the job of a start is its codec's own
+pub own_job : (job : JobValue) (o : Out) → o ≡ went_out (is_some (missing_id job)) job.place job.coder → IsOwnJob o job
+own_job job o is = rw is (record { asks = λ some. rw some refl; has = λ none. rw none refl })
 
 goes_start : (o : Option CoderId) (t : State) (a : Act) → a ≡ start_act o → is_some o ≡ true → LetsGo a t
 goes_start None t a is some = absurd cc

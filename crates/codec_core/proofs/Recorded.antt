@@ -1,6 +1,6 @@
 -- A step is recorded, with what it shows.
-use Rattle.std.proofs.Common.{ℕ, not, ◌≡◌, ◌+◌, ◌-◌, ◌^◌, ◌<◌, ◌≤◌, Bool, false, true, eqb, slice_get, List, [], ◌∷◌, ◌++◌, drop, length, length-append, Option, Some, None, refl, ap, sym, append-nil, eq-eqb, ◌∙◌, arith}
-use Rattle.std.specs.Prelude.{nat_lt}
+use Rattle.std.proofs.Common.{ℕ, not, ◌≡◌, ◌+◌, ◌-◌, ◌^◌, ◌<◌, ◌≤◌, Bool, false, true, eqb, slice_get, List, [], ◌∷◌, ◌++◌, drop, length, length-append, Option, Some, None, is_some, refl, ap, sym, append-nil, eq-eqb, ◌∙◌, arith}
+use Rattle.std.specs.Prelude.{nat_lt, IfSome, option_map}
 use Rattle.std.specs.List.{AllByRecursion}
 use Rattle.std.proofs.lemmas.Bool.{and_parts, eqb-true}
 use Rattle.std.proofs.lemmas.List.{drop-append-le, drop-drop, length-drop}
@@ -13,14 +13,15 @@ use Rattle.codec_model.specs.Control.{Control, carried, left, front, may_take, a
 use Rattle.codec_model.specs.{Replay.with_control, Replay.call_error, ShownLaws.each_more, Earlier.pending_below, Earlier.resolved_below}
 use Rattle.codec_model.specs.Facts.{Always, IsNeverStuck, NamesEarlier}
 use Rattle.codec_model.specs.StepLaws.{own_promise}
-use Rattle.codec_model.specs.Shown.{shows as events_of, units_in, units_shown, ends_of, shown, outputs_of, shown_at, promise_of, refused_shows, call_shows, removal_shows, close_shows, rejections, turn_shows}
+use Rattle.codec_model.specs.Shown.{shows as events_of, units_in, units_shown, ends_of, shown, outputs_of, shown_at, promise_of, refused_shows, call_shows, close_shows, rejections, turn_shows}
 use Rattle.codec_accounts.specs.{Asked.asked_at, Boxes.act_of, Boxes.removal_act}
 use Rattle.history_laws.specs.CountLaws.{step_counts}
-use Rattle.codec_core.specs.Codec.{IsAskedAt, IsKept, IsCore, OutputsWait, kept_box, reclaims}
+use Rattle.codec_core.specs.declared.out.Out.{Out}
+use Rattle.codec_core.specs.Codec.{IsAskedAt, IsOutOf, IsKept, IsCore, OutputsWait, kept_box, reclaims}
 use Rattle.codec_core.specs.Trace.{TraceValue, EndsBelow}
-use Rattle.codec_core.proofs.{Promises.task_ends, Owning.own_more}
+use Rattle.codec_core.proofs.{Promises.task_ends, Owning.own_more, Owning.out_more}
 use Rattle.codec_core.proofs.Outputs.{outputs_more, outputs_shown, front_drop}
-use Rattle.codec_core.proofs.Steps.{Moved, kept_more, takes}
+use Rattle.codec_core.proofs.Steps.{Moved, kept_more, takes_one}
 
 -- ---- the outputs that wait after one more entry
 
@@ -37,7 +38,7 @@ outputs_go xs waiting k k' x n outputs shown taken some = record {
 
 -- ---- one more entry
 
-module _ {t : TraceValue} {slot : Option Lent} {k : Control} {spare : ℕ} (is : IsCore t slot k spare) (free spare' : ℕ) {next : Option Lent} {k' : Control} {e : Entry} (x : Shown) (m : Moved next e is.kept.state k') (shows : x ≡ shown_at e (with_control k is.kept.state)) where
+module _ {t : TraceValue} {slot : Option Lent} {out : Out} {k : Control} {spare : ℕ} (is : IsCore t slot out k spare) (free spare' : ℕ) {next : Option Lent} {k' : Control} {e : Entry} (x : Shown) (m : Moved next e is.kept.state k') (shows : x ≡ shown_at e (with_control k is.kept.state)) where
   shown_here : x ≡ shown_at e is.kept.state
   shown_here = shows ∙ ap (λ (c : Control). shown_at e (with_control c is.kept.state)) (sym is.kept.is_control)
 
@@ -45,32 +46,33 @@ module _ {t : TraceValue} {slot : Option Lent} {k : Control} {spare : ℕ} (is :
   abbrev HasPlace : Type 0
   HasPlace = (left k' + spare' + reclaims k'.phase + 1 ≤ free) × (length t.entries + free < 2 ^ 63)
 
-  core_by : (waiting : List media.Unit) → OutputsWait (t.shown ++ x ∷ []) waiting k' → HasPlace → IsAskedAt (asked_at k'.opening (t.entries ++ e ∷ [])) next → IsCore (record { entries = t.entries ++ e ∷ []; shown = t.shown ++ x ∷ []; waiting = waiting; free = free - 1 }) next k' spare'
-  core_by waiting outputs place own =
+  core_by : (waiting : List media.Unit) (out' : Out) → OutputsWait (t.shown ++ x ∷ []) waiting k' → HasPlace → IsAskedAt (asked_at k'.opening (t.entries ++ e ∷ [])) next → (is_some k'.running ≡ true → IsOutOf out' (asked_at k'.opening (t.entries ++ e ∷ []))) → IsCore (record { entries = t.entries ++ e ∷ []; shown = t.shown ++ x ∷ []; waiting = waiting; free = free - 1 }) next out' k' spare'
+  core_by waiting out' outputs place own lent =
       let same : k'.opening ≡ k.opening = m.leaves.same_opening ∙ ap (λ (c : Control). c.opening) is.kept.is_control in
       record {
         kept = kept_more is.kept m;
         shows = rw (is.shows, shown_here, same) (sym (each_more k.opening t.entries e is.kept.state is.kept.replays));
         outputs = outputs;
         own = own;
+        lent = lent;
         places = omega (arith, place.0);
         fits = omega (arith, place.0, place.1, length-append t.entries (e ∷ []));
       }
 
   -- an entry that takes no output adds its own to those that wait
-  outputs_kept : takes e ≡ false → OutputsWait (t.shown ++ x ∷ []) (t.waiting ++ units_in x.events) k'
+  outputs_kept : takes_one e ≡ false → OutputsWait (t.shown ++ x ∷ []) (t.waiting ++ units_in x.events) k'
   outputs_kept none =
       let now = ap (λ (c : Control). c.shown) m.is_control in
       let own : length (units_in x.events) ≡ length (units_in (events_of e is.kept.state)) = ap (λ (y : Shown). length (units_in y.events)) shown_here in
       outputs_go t.shown t.waiting k k' x 0 is.outputs (omega (arith, step_counts e is.kept.state m.after m.steps, ap (λ (c : Control). c.shown) is.kept.is_control, now, own)) (omega (arith, m.leaves.taken none, ap (λ (c : Control). c.taken) is.kept.is_control)) (omega (arith, is.outputs.took))
 
   -- the trace with one more entry is that of the codec after it
-  pub core_more : takes e ≡ false → HasPlace → IsAskedAt (asked_at k'.opening (t.entries ++ e ∷ [])) next → IsCore (record { entries = t.entries ++ e ∷ []; shown = t.shown ++ x ∷ []; waiting = t.waiting ++ units_in x.events; free = free - 1 }) next k' spare'
-  core_more none place own = core_by (t.waiting ++ units_in x.events) (outputs_kept none) place own
+  pub core_more : (out' : Out) → takes_one e ≡ false → HasPlace → IsAskedAt (asked_at k'.opening (t.entries ++ e ∷ [])) next → (is_some k'.running ≡ true → IsOutOf out' (asked_at k'.opening (t.entries ++ e ∷ []))) → IsCore (record { entries = t.entries ++ e ∷ []; shown = t.shown ++ x ∷ []; waiting = t.waiting ++ units_in x.events; free = free - 1 }) next out' k' spare'
+  core_more out' none place own lent = core_by (t.waiting ++ units_in x.events) out' (outputs_kept none) place own lent
 
   -- and of an entry that is neither the start nor the end of an item
-  pub core_next : takes e ≡ false → HasPlace → (stays : Bool) → act_of e is.kept.state ≡ removal_act (not stays) → next ≡ kept_box stays slot → IsCore (record { entries = t.entries ++ e ∷ []; shown = t.shown ++ x ∷ []; waiting = t.waiting ++ units_in x.events; free = free - 1 }) next k' spare'
-  core_next none place stays act box = core_more none place (own_more is.kept stays m act box is.own)
+  pub core_next : takes_one e ≡ false → HasPlace → (stays : Bool) → act_of e is.kept.state ≡ removal_act (not stays) → next ≡ kept_box stays slot → IsCore (record { entries = t.entries ++ e ∷ []; shown = t.shown ++ x ∷ []; waiting = t.waiting ++ units_in x.events; free = free - 1 }) next out k' spare'
+  core_next none place stays act box = core_more out none place (own_more is.kept stays m act box is.own) (out_more out is.kept stays m act is.lent)
 
 -- ---- a take
 
@@ -80,26 +82,26 @@ waits xs waiting k outputs =
     let long : length waiting ≡ length (units_shown xs) - k.taken = ap length outputs.others ∙ length-drop k.taken (units_shown xs) in
     rw (eq-eqb k.taken k.taken refl) (grind (arith, nat_tests, long, outputs.counted))
 
-pub none_waits : (xs : List Shown) (waiting : List media.Unit) (k : Control) → OutputsWait xs waiting k → front waiting ≡ None → may_take k.taken k ≡ false
+none_waits : (xs : List Shown) (waiting : List media.Unit) (k : Control) → OutputsWait xs waiting k → front waiting ≡ None → may_take k.taken k ≡ false
 none_waits xs [] k outputs none = waits xs [] k outputs
 none_waits xs (u ∷ us) k outputs none = absurd cc
 
 -- the trace after a take is that of the codec after it
-pub core_taken : {t : TraceValue} {slot : Option Lent} {k k' : Control} {spare : ℕ} (is : IsCore t slot k spare) (free : ℕ) (who : Who) (n : ℕ) → may_take n k ≡ true → k' ≡ after_take (at_next_place k) → Moved slot (Entry.Take who n) is.kept.state k' → left k' + spare + reclaims k'.phase + 1 ≤ free → length t.entries + free < 2 ^ 63
-    → IsCore (record { entries = t.entries ++ Entry.Take who n ∷ []; shown = t.shown ++ record { turn = None; events = [] } ∷ []; waiting = drop 1 t.waiting ++ []; free = free - 1 }) slot k' spare
-core_taken {t = t} {k = k} {k' = k'} {spare = spare} is free who n may after m place fits =
+pub core_taken : {t : TraceValue} {slot : Option Lent} {out : Out} {k k' : Control} {spare : ℕ} (is : IsCore t slot out k spare) (free spare' : ℕ) (who : Who) (n : ℕ) → may_take n k ≡ true → k' ≡ after_take (at_next_place k) → Moved slot (Entry.Call who (Call.Take n)) is.kept.state k' → left k' + spare' + reclaims k'.phase + 1 ≤ free → length t.entries + free < 2 ^ 63
+    → IsCore (record { entries = t.entries ++ Entry.Call who (Call.Take n) ∷ []; shown = t.shown ++ record { turn = None; events = [] } ∷ []; waiting = drop 1 t.waiting ++ []; free = free - 1 }) slot out k' spare'
+core_taken {t = t} {out = out} {k = k} {k' = k'} is free spare' who n may after m place fits =
     let x : Shown = record { turn = None; events = [] } in
     let parts = and_parts (eqb n k.taken) (nat_lt n k.shown) may in
     let some : k.taken < k.shown = grind (arith, nat_tests, eqb-true n k.taken parts.0, parts.1) in
     let outputs = outputs_go t.shown t.waiting k k' x 1 is.outputs (omega (arith, ap (λ (c : Control). c.shown) after)) (ap (λ (c : Control). c.taken) after) (omega (arith, some)) in
-    core_by is free spare x m refl (drop 1 t.waiting ++ []) outputs (place, fits) (own_more is.kept true m refl refl is.own)
+    core_by is free spare' x m refl (drop 1 t.waiting ++ []) out outputs (place, fits) (own_more is.kept true m refl refl is.own) (out_more out is.kept true m refl is.lent)
 
 -- the output that is taken is the one with its number
-pub taken_is : {t : TraceValue} {slot : Option Lent} {k : Control} {spare : ℕ} (is : IsCore t slot k spare) (n : ℕ) (u : media.Unit) → n ≡ k.taken → front t.waiting ≡ Some u → slice_get (outputs_of (shown k.opening t.entries)) n ≡ Some u
+pub taken_is : {t : TraceValue} {slot : Option Lent} {out : Out} {k : Control} {spare : ℕ} (is : IsCore t slot out k spare) (n : ℕ) (u : media.Unit) → n ≡ k.taken → front t.waiting ≡ Some u → slice_get (outputs_of (shown k.opening t.entries)) n ≡ Some u
 taken_is {t = t} {k = k} is n u same found =
     rw (outputs_shown k.opening t.entries, ← is.shows, same, ← front_drop k.taken (units_shown t.shown), ← is.outputs.others) found
 
-pub next_fits : {t : TraceValue} {slot : Option Lent} {k : Control} {spare : ℕ} → IsCore t slot k spare → k.place + 1 < 2 ^ 64
+pub next_fits : {t : TraceValue} {slot : Option Lent} {out : Out} {k : Control} {spare : ℕ} → IsCore t slot out k spare → k.place + 1 < 2 ^ 64
 next_fits is = omega (arith, is.fits, is.kept.is_place)
 
 -- ---- the promises that an entry ends are named by entries up to it
@@ -111,10 +113,6 @@ rejected_below error n (p ∷ ps) more rest h = (h.0, rejected_below error n ps 
 higher : (n m : ℕ) (ends : List PromiseEnd) → n ≤ m → AllByRecursion (λ (e : PromiseEnd). e.promise < n) ends → AllByRecursion (λ (e : PromiseEnd). e.promise < m) ends
 higher n m [] le h = tt
 higher n m (e ∷ es) le h = (omega (arith, h.0, le), higher n m es le h.1)
-
-pub removal_below : (o : Option DomError) (k : Control) → NamesEarlier k → EndsBelow k.place (removal_shows o k.pending)
-removal_below None k names = rw append-nil at (rejected_below Abort k.place k.pending [] tt (pending_below k names))
-removal_below (Some error) k names = tt
 
 pub close_below : (error : DomError) (k : Control) → NamesEarlier k → EndsBelow k.place (close_shows error k.pending)
 close_below error k names = rejected_below error k.place k.pending (Event.ErrorCall error ∷ []) tt (pending_below k names)
@@ -131,13 +129,30 @@ ends_below always {h = h} {k = k} kept x y is below =
     let names : NamesEarlier k = rw (← kept.is_control) (always k.opening h kept.state kept.some_saturate kept.replays).names in
     rw (is, ← kept.is_place) (higher k.place (k.place + 1) (ends_of y.events) (omega arith) (below names))
 
-call_below : (x : Call) (n : ℕ) (o : Option DomError) → EndsBelow (n + 1) (call_shows x n o)
-call_below x n o = by (promise_of x n) (own_promise x n) o
+-- what a call shows ends its own promise, or those that are pending
+call_below : (x : Call) (k : Control) (o : Option DomError) → NamesEarlier k → EndsBelow (k.place + 1) (call_shows x k.place k.pending o)
+call_below x k (Some error) names = by (promise_of x k.place) (own_promise x k.place)
   where
-    by : (p : Option ℕ) → ((q : ℕ) → p ≡ Some q → q ≡ n) → (o : Option DomError) → EndsBelow (n + 1) (refused_shows p o)
-    by (Some q) own (Some error) = (omega (arith, own q refl), tt)
-    by None own (Some error) = tt
-    by p own None = elim p as (λ (q : Option ℕ). EndsBelow (n + 1) (refused_shows q None)) [ None ↦ tt | Some q ↦ tt ]
+    by : (p : Option ℕ) → ((q : ℕ) → p ≡ Some q → q ≡ k.place) → EndsBelow (k.place + 1) (refused_shows p error)
+    by None own = tt
+    by (Some q) own = (omega (arith, own q refl), tt)
+call_below Call.Reset k None names = higher k.place (k.place + 1) _ (omega arith) (rw append-nil at (rejected_below Abort k.place k.pending [] tt (pending_below k names)))
+call_below Call.Close k None names = higher k.place (k.place + 1) _ (omega arith) (rw append-nil at (rejected_below Abort k.place k.pending [] tt (pending_below k names)))
+call_below x k None names = tt
 
-pub call_ends : {h : List Entry} {slot : Option Lent} {k : Control} (kept : IsKept h slot k) (x : Call) (y : Shown) → y ≡ record { turn = None; events = call_shows x k.place (call_error x k) } → EndsBelow (length h + 1) y.events
-call_ends {k = k} kept x y is = rw (ap (λ (z : Shown). z.events) is, ← kept.is_place) (call_below x k.place (call_error x k))
+pub call_ends : Always IsNeverStuck → {h : List Entry} {slot : Option Lent} {k : Control} (kept : IsKept h slot k) (x : Call) (y : Shown) → y ≡ record { turn = None; events = call_shows x k.place k.pending (call_error x k) } → EndsBelow (length h + 1) y.events
+call_ends always {h = h} {k = k} kept x y is =
+    let names : NamesEarlier k = rw (← kept.is_control) (always k.opening h kept.state kept.some_saturate kept.replays).names in
+    rw (ap (λ (z : Shown). z.events) is, ← kept.is_place) (call_below x k (call_error x k) names)
+
+-- the next output that may be taken, if there is one, is the first of those that wait
+pub next_is : {t : TraceValue} {slot : Option Lent} {out : Out} {k : Control} {spare : ℕ} (is : IsCore t slot out k spare) → IfSome (front t.waiting) (λ u. slice_get (outputs_of (shown k.opening t.entries)) k.taken ≡ Some u)
+next_is {t = t} {k = k} is = by (front t.waiting) refl
+  where
+    by : (o : Option media.Unit) → front t.waiting ≡ o → IfSome o (λ u. slice_get (outputs_of (shown k.opening t.entries)) k.taken ≡ Some u)
+    by None found = tt
+    by (Some u) found = taken_is is k.taken u refl found
+
+pub some_waits : (xs : List Shown) (waiting : List media.Unit) (k : Control) → OutputsWait xs waiting k → is_some (front waiting) ≡ may_take k.taken k
+some_waits xs [] k outputs = sym (waits xs [] k outputs)
+some_waits xs (u ∷ us) k outputs = rw (waits xs (u ∷ us) k outputs) (grind (arith, nat_tests))

@@ -1,5 +1,5 @@
 -- Steps of a history, and where the box is after each.
-use Rattle.std.proofs.Common.{ℕ, ◌≡◌, ◌+◌, ◌≤◌, ◌<◌, ◌||◌, not, Bool, true, false, eqb, cond, List, [], ◌∷◌, ◌++◌, drop, length-append, Option, Some, None, is_some, is_none, refl, ap, sym, subst, eq-eqb, ◌∙◌, arith}
+use Rattle.std.proofs.Common.{ℕ, ◌≡◌, ◌+◌, ◌≤◌, ◌<◌, ◌&&◌, ◌||◌, not, Bool, true, false, eqb, cond, List, [], ◌∷◌, ◌++◌, drop, length-append, Option, Some, None, is_some, is_none, refl, ap, sym, subst, eq-eqb, ◌∙◌, arith}
 use Rattle.std.specs.Prelude.{unwrap_or, max, IfNone, OnSome, option_and_then}
 use Rattle.std.proofs.lemmas.Bool.{and_parts, eqb-true, not-true}
 use Rattle.std.proofs.lemmas.Bool.Decides.{nat_tests}
@@ -7,16 +7,15 @@ use Rattle.wc_base.specs.{Options.cond_is, Options.some_same, declared.error.Dom
 use Rattle.codec_definitions.specs.declared.unit.Unit as media
 use Rattle.coder_api.specs.Lent.{Lent}
 use Rattle.wc_config.specs.{declared.config.Config.Config, Configs.coder_id_of}
-use Rattle.codec_model.specs.declared.entry.{CodecState.CodecState, Opening.Opening, Removal.Removal, Call.Call, Entry.Entry, HeldSound.HeldSound}
+use Rattle.codec_model.specs.declared.entry.{CodecState.CodecState, Opening.Opening, Call.Call, Entry.Entry}
 use Rattle.codec_model.specs.declared.entry.CodecState.TheVariants.{Unconfigured, Configured, Closed}
-use Rattle.codec_model.specs.declared.entry.{Handed.Handed, Coded.Coded, Work.Work, Message.Message, Item.Item, Running.Running, Task.Task}
-use Rattle.codec_model.specs.{declared.entry.Ended.Ended, declared.entry.Event.Event, ShownLaws.replay_more}
-use Rattle.codec_model.specs.Control.{Control, is_decoder, after_message, process, with_message, at_next_place, is_close, turn_closes, run_task, run_front, kind_of, after_done, done_running, after_end, after_turn, after_close, after_removal, may_reclaim, front, may_start, start_item, after_start, after_encode, after_take, may_take}
-use Rattle.codec_model.specs.Replay.{State, call_step, removal_step, Given, missing_coder, opening_state, step, with_control, removed, after_call, call_error, entry_of, removal_error, removal_entry, remove_or_refuse, is_configured, encode_error, accepted, config_asked, coder_wanted, serves_too, encode_entry, refused_encode}
-use Rattle.codec_model.specs.Shown.{refusal, shown_at, call_shows, removal_shows}
-use Rattle.codec_accounts.specs.Boxes.{act_of, removal_act}
-use Rattle.codec_model.specs.StepLaws.{by_calls, by_items, begun, start_made, asked, work_of, call_sends, closed_refuses}
+use Rattle.codec_model.specs.declared.entry.{Handed.Handed, Work.Work, Message.Message, Item.Item, Running.Running, Task.Task}
+use Rattle.codec_model.specs.{declared.entry.Ended.Ended, ShownLaws.replay_more}
+use Rattle.codec_model.specs.Control.{Control, is_decoder, after_message, process, with_message, at_next_place, is_close, turn_closes, run_task, run_front, kind_of, after_done, done_running, after_end, after_turn, after_close, after_reset, may_reclaim, front, may_start, start_item, after_start, after_take, may_take}
+use Rattle.codec_model.specs.Replay.{State, Given, missing_coder, opening_state, step, with_control, removed, after_call, call_error, may_call, message_of, sends, removes, takes, accepted, config_asked, coder_wanted, serves_too}
+use Rattle.codec_model.specs.StepLaws.{by_items, by_removals, begun, start_made, asked, call_sends, closed_refuses, senders_stay}
 use Rattle.codec_core.specs.Job.{DoneValue, missing_for, CoderAt, CoderFor, StillAt, IsEndOf, IsJobOf, outcome_of, holds}
+use Rattle.codec_core.specs.declared.out.Out.{Out}
 use Rattle.codec_core.specs.Codec.{state_at, Makes, CoderHome, IsKept, kept_box, reclaims}
 
 -- what processing leaves as it is
@@ -45,9 +44,9 @@ run_keeps (Task.Close x) s h = absurd cc
 run_keeps _ s h = refl
 
 -- an entry takes an output
-abbrev pub takes : Entry → Bool
-takes (Entry.Take who unit) = true
-takes _ = false
+abbrev pub takes_one : Entry → Bool
+takes_one (Entry.Call who x) = takes x
+takes_one _ = false
 
 -- the control state with this of it
 abbrev pub with_rest : Rest → Control → Control
@@ -58,7 +57,7 @@ pub record Leaves (slot : Option Lent) (e : Entry) (s t : State) (r : Rest) : Ty
   pub home : CoderHome slot (with_control (with_rest r t.control) t)
   pub next_place : r.place ≡ s.control.place + 1
   pub same_opening : r.opening ≡ s.control.opening
-  pub taken : takes e ≡ false → r.taken ≡ s.control.taken
+  pub taken : takes_one e ≡ false → r.taken ≡ s.control.taken
   pub kept_place : reclaims r.phase ≤ reclaims s.control.phase
 
 -- a legal step to a control state, with the box at home there
@@ -72,7 +71,7 @@ moved_to : {slot : Option Lent} {e : Entry} {s : State} (t : State) (r : Rest) �
 moved_to {slot = slot} {e = e} {s = s} t r same steps leaves = record { after = t; steps = steps; is_control = refl; leaves = subst (Leaves slot e s t) (sym same) leaves }
 
 -- an entry at which the running item and the epoch stay, with this phase and so many outputs taken after it
-moved_by : (slot : Option Lent) (e : Entry) (s : State) (k : Control) (phase : CodecState) (taken : ℕ) → rest_of k ≡ rest_of (record (at_next_place s.control) { phase = phase; taken = taken }) → reclaims phase ≤ reclaims s.control.phase → (takes e ≡ false → taken ≡ s.control.taken) → step e s ≡ Some (with_control k s) → CoderHome slot s → Moved slot e s k
+moved_by : (slot : Option Lent) (e : Entry) (s : State) (k : Control) (phase : CodecState) (taken : ℕ) → rest_of k ≡ rest_of (record (at_next_place s.control) { phase = phase; taken = taken }) → reclaims phase ≤ reclaims s.control.phase → (takes_one e ≡ false → taken ≡ s.control.taken) → step e s ≡ Some (with_control k s) → CoderHome slot s → Moved slot e s k
 moved_by slot e s k phase taken same le none steps home = moved_to (with_control k s) _ same steps (record {
   home = record { idle = home.idle; out = home.out; busy = home.busy; stale = home.stale; older = home.older };
   next_place = refl;
@@ -180,56 +179,46 @@ idle_after slot next s d moment end home false other next_is fine =
 
 -- ---- calls
 
--- an entry that takes no output: its step, what it shows, and whether it removes
-pub record EntryIs (e : Entry) (s t : State) (events : List Event) (removes : Bool) : Type 0 where
-  pub steps : step e s ≡ Some t
-  pub takes_none : takes e ≡ false
-  pub shows : shown_at e s ≡ record { turn = None; events = events }
-  pub act : act_of e s ≡ removal_act removes
-
-pub call_is : (who : Who) (x : Call) (s : State) → EntryIs (entry_of who x) s (call_step x s) (call_shows x s.control.place (call_error x s.control)) false
-call_is who x s =
-    by_calls (λ (y : Call). EntryIs (entry_of who y) s (call_step y s) (call_shows y s.control.place (call_error y s.control)) false) (λ config. record { steps = refl; takes_none = refl; shows = refl; act = refl })
-    (λ chunk. record { steps = refl; takes_none = refl; shows = refl; act = refl }) (record { steps = refl; takes_none = refl; shows = refl; act = refl }) x
-
-pub removal_is : (who : Who) (r : Removal) (s : State) → EntryIs (removal_entry who r) s (removal_step r s) (removal_shows (removal_error s.control) s.control.pending) (is_none (removal_error s.control))
-removal_is who Removal.Reset s = record { steps = refl; takes_none = refl; shows = refl; act = refl }
-removal_is who Removal.Close s = record { steps = refl; takes_none = refl; shows = refl; act = refl }
-
--- an encode of data that is not detached is refused exactly where the codec is not configured
-not_refused : (b : Bool) → cond b None (Some DomError.InvalidState) ≡ None → b ≡ true
-not_refused true e = refl
-not_refused false e = absurd cc
-
-is_refused : (b : Bool) (x : DomError) → cond b None (Some DomError.InvalidState) ≡ Some x → b ≡ false
-is_refused true x e = absurd cc
-is_refused false x e = refl
-
-pub refusal_is : (who : Who) (detached : Bool) (x : DomError) (s : State) → encode_error detached s.control ≡ Some x → EntryIs (refused_encode who detached) s (with_control (at_next_place s.control) s) (refusal (encode_error detached s.control)) false
-refusal_is who true x s e = record { steps = refl; takes_none = refl; shows = refl; act = refl }
-refusal_is who false x s e = let off = is_refused (is_configured s.control) x e in record { steps = rw off refl; takes_none = refl; shows = rw off refl; act = refl }
-
 -- an entry that moves on to the next place and does nothing else
 next_moved : (slot : Option Lent) (e : Entry) (s : State) → step e s ≡ Some (with_control (at_next_place s.control) s) → CoderHome slot s → Moved slot e s (at_next_place s.control)
 next_moved slot e s steps home = moved_by slot e s (at_next_place s.control) s.control.phase s.control.taken refl (omega arith) (λ none. refl) steps home
 
-call_moved : (slot : Option Lent) (who : Who) (x : Call) (s : State) (error : Option DomError) → call_error x s.control ≡ error → step (entry_of who x) s ≡ Some (with_control (after_call error x s.control) s) → CoderHome slot s → Moved slot (entry_of who x) s (after_call error x s.control)
-call_moved slot who x s None e steps home =
-    let k = call_sends x s.control in
-    let same = ap rest_of k.is ∙ queued_keeps s.control.place (work_of x) (asked s.control k.phase k.key_required k.size k.pending) in
-    moved_by slot (entry_of who x) s (accepted x s.control) k.phase s.control.taken same (omega (arith, most_reclaims k.phase, open_call s.control.phase refl)) (λ none. refl) steps home
+refused_moved : (slot : Option Lent) (who : Who) (x : Call) (error : DomError) (s : State) → may_call x s.control ≡ true → call_error x s.control ≡ Some error → CoderHome slot s → Moved slot (Entry.Call who x) s (at_next_place s.control)
+refused_moved slot who x error s may e home = next_moved slot (Entry.Call who x) s (rw (may, e) refl) home
+
+sent_moved : (slot : Option Lent) (who : Who) (x : Call) (w : Work) (s : State) → message_of x ≡ Some w → may_call x s.control ≡ true → (o : Option DomError) → call_error x s.control ≡ o → CoderHome slot s → Moved slot (Entry.Call who x) s (after_call o x s.control)
+sent_moved slot who x w s m may (Some error) e home = refused_moved slot who x error s may e home
+sent_moved slot who x w s m may None e home =
+    let k = call_sends x w s.control m in
+    let same = ap rest_of k.is ∙ queued_keeps s.control.place w (asked s.control k.phase k.key_required k.size k.pending) in
+    moved_by slot (Entry.Call who x) s (accepted x s.control) k.phase s.control.taken same (omega (arith, most_reclaims k.phase, open_call s.control.phase refl)) (λ none. refl) (rw (may, e, senders_stay x w m) refl) home
   where
     open_call : (p : CodecState) → s.control.phase ≡ p → reclaims p ≡ 1
-    open_call Closed is = absurd (let bad = closed_refuses x s.control is in let none = rw e at bad in cc)
+    open_call Closed is = absurd (let bad = closed_refuses x s.control (ap is_some m) may is in let none = rw e at bad in cc)
     open_call p is = refl
-call_moved slot who x s (Some error) e steps home = next_moved slot (entry_of who x) s steps home
+
+removal_moved : (slot : Option Lent) (who : Who) (x : Call) (s : State) → removes x ≡ true → call_error x s.control ≡ None → CoderHome slot s → Moved None (Entry.Call who x) s (accepted x s.control)
+removal_moved slot who x s is e home = by_removals (λ y. call_error y s.control ≡ None → Moved None (Entry.Call who y) s (accepted y s.control))
+    (λ none. removed_moved slot (Entry.Call who Call.Reset) s (after_reset (at_next_place s.control)) Unconfigured refl (omega (arith, open_phase true s.control.phase none)) (rw none refl) home)
+    (λ none. removed_moved slot (Entry.Call who Call.Close) s (after_close (at_next_place s.control)) Closed refl (omega arith) (rw none refl) home) x is e
+
+-- a call that sends no message and takes nothing is refused, or removes
+removes_else : (x : Call) (c : Control) → sends x ≡ false → takes x ≡ false → call_error x c ≡ None → removes x ≡ true
+removes_else Call.Reset c s t e = refl
+removes_else Call.Close c s t e = refl
+removes_else (Call.Encode (Handed.Cloned sound)) c s t e = absurd cc
+removes_else (Call.Encode Handed.Gone) c s t e = absurd cc
+removes_else (Call.Encode Handed.Kept) c s t e = absurd cc
+removes_else x c s t e = absurd cc
+
+made_moved : (slot : Option Lent) (who : Who) (x : Call) (s : State) → sends x ≡ false → takes x ≡ false → may_call x s.control ≡ true → (o : Option DomError) → call_error x s.control ≡ o → CoderHome slot s → Moved (kept_box (not (removes x && is_none o)) slot) (Entry.Call who x) s (after_call o x s.control)
+made_moved slot who x s sends takes may (Some error) e home =
+    let m = refused_moved slot who x error s may e home in
+    elim (removes x) as (λ b. Moved (kept_box (not (b && false)) slot) (Entry.Call who x) s (at_next_place s.control)) [ true ↦ m | false ↦ m ]
+made_moved slot who x s sends takes may None e home =
+    let is = removes_else x s.control sends takes e in rw is (removal_moved slot who x s is e home)
 
 -- ---- removals
-
--- a reset or close: made, or refused with this error
-abbrev pub removal_of : Option DomError → Removal → Control → Control
-removal_of None r s = after_removal r (at_next_place s)
-removal_of (Some error) r s = at_next_place s
 
 reclaimed_phase : (p : CodecState) (b : Bool) → elim p as (λ _. Bool) [ Unconfigured ↦ false | Configured ↦ b | Closed ↦ false ] ≡ true → reclaims p ≡ 1
 reclaimed_phase Configured b e = refl
@@ -238,9 +227,18 @@ reclaimed_phase p b e = absurd cc
 pub reclaim_reclaims : (k k' : Control) (now : ℕ) → may_reclaim now k ≡ true → k' ≡ after_close (at_next_place k) → reclaims k'.phase + 1 ≤ reclaims k.phase
 reclaim_reclaims k k' now may after = rw (after, reclaimed_phase k.phase _ may) (omega arith)
 
-pub removal_after : (error : Option DomError) (r : Removal) (s k' : Control) → IfNone error (k' ≡ after_removal r (at_next_place s)) → OnSome error (k' ≡ at_next_place s) → k' ≡ removal_of error r s
-removal_after None r s k' m n = m
-removal_after (Some x) r s k' m n = n
+-- a call that sends a message takes no output
+pub senders_take_none : (x : Call) → sends x ≡ true → takes x ≡ false
+senders_take_none (Call.Take unit) some = absurd cc
+senders_take_none x some = refl
+
+-- the message of a call that sends one
+pub message_there : (x : Call) → sends x ≡ true → (w : Work) × (message_of x ≡ Some w)
+message_there x some = by (message_of x) some
+  where
+    by : (o : Option Work) → is_some o ≡ true → (w : Work) × (o ≡ Some w)
+    by None h = absurd cc
+    by (Some w) h = (w, refl)
 
 -- ---- the history goes on
 
@@ -260,8 +258,8 @@ module _ {h : List Entry} {slot : Option Lent} {k : Control} (kept : IsKept h sl
   pub place_kept : {next : Option Lent} {e : Entry} {k' : Control} → Moved next e kept.state k' → reclaims k'.phase ≤ reclaims k.phase
   place_kept m = omega (arith, m.leaves.kept_place, ap (λ (c : Control). reclaims c.phase) kept.is_control)
 
-  pub state_is : (spare : ℕ) → state_at (record { opening = k.opening; history = h; spare = spare; slot = slot }) ≡ kept.state
-  state_is spare = ap (λ o. unwrap_or o (opening_state k.opening)) kept.replays
+  pub state_is : (spare : ℕ) (out : Out) → state_at (record { opening = k.opening; history = h; spare = spare; slot = slot; out = out }) ≡ kept.state
+  state_is spare out = ap (λ o. unwrap_or o (opening_state k.opening)) kept.replays
 
   can_here : (i : Item) → start_item k ≡ Some i → CanStart kept.state.control i
   can_here i item = can_start kept.state.control i (rw kept.is_control item)
@@ -301,10 +299,10 @@ module _ {h : List Entry} {slot : Option Lent} {k : Control} (kept : IsKept h sl
         given = record { before = s.given; more = refl; box = coder_for i.work slot s.given (idle_here i item) };
       })
 
-  pub done_moves : {next : Option Lent} {k' : Control} (d : DoneValue) (moment spare : ℕ) → IsEndOf (state_at (record { opening = k.opening; history = h; spare = spare; slot = slot })) d → next ≡ kept_box (eqb d.epoch k.epoch) d.coder → k' ≡ after_done d.ended moment k → Moved next (Entry.Done d.epoch d.number moment (outcome_of d.ended)) kept.state k'
-  done_moves {next = next} d moment spare end slot_is after =
+  pub done_moves : {next : Option Lent} {k' : Control} (d : DoneValue) (moment spare : ℕ) (out : Out) → IsEndOf (state_at (record { opening = k.opening; history = h; spare = spare; slot = slot; out = out })) d → next ≡ kept_box (eqb d.epoch k.epoch) d.coder → k' ≡ after_done d.ended moment k → Moved next (Entry.Done d.epoch d.number moment (outcome_of d.ended)) kept.state k'
+  done_moves {next = next} d moment spare out end slot_is after =
       let s = kept.state in
-      let own : IsEndOf s d = rw (state_is spare) at end in
+      let own : IsEndOf s d = rw (state_is spare out) at end in
       let k = done_running own.running d.ended moment (at_next_place s.control) in
       let is : after_done d.ended moment s.control ≡ k = rw own.is_running refl in
       let next_is : next ≡ kept_box (eqb d.epoch s.control.epoch) d.coder = rw kept.is_control slot_is in
@@ -320,49 +318,36 @@ module _ {h : List Entry} {slot : Option Lent} {k : Control} (kept : IsKept h sl
   turn_moves b closes slot_is after =
       rw (slot_is, after, ← kept.is_control) (turn_moved slot kept.state k.tasks b (ap (λ (c : Control). c.tasks) kept.is_control) closes kept.home)
 
-  pub call_moves : {k' : Control} (who : Who) (x : Call) → k' ≡ after_call (call_error x k) x k → Moved slot (entry_of who x) kept.state k'
-  call_moves who x after =
-      let s = kept.state in rw (after, ← kept.is_control) (call_moved slot who x s (call_error x s.control) refl (call_is who x s).steps kept.home)
-
-  -- an encode is queued like a call
-  pub encode_moves : {k' : Control} (who : Who) (x : HeldSound) → encode_error false k ≡ None → k' ≡ after_encode k.place x (at_next_place k) → Moved slot (encode_entry who x) kept.state k'
-  encode_moves who x e after =
+  pub sent_moves : {k' : Control} (who : Who) (x : Call) → sends x ≡ true → may_call x k ≡ true → k' ≡ after_call (call_error x k) x k → Moved slot (Entry.Call who x) kept.state k'
+  sent_moves who x some may after =
       let s = kept.state in
-      let fine = not_refused (is_configured s.control) (ap (encode_error false) kept.is_control ∙ e) in
-      let same : rest_of (after_encode s.control.place x (at_next_place s.control)) ≡ rest_of (at_next_place s.control) = queued_keeps s.control.place _ (record (at_next_place s.control) { size = s.control.size + 1 }) in
-      rw (after, ← kept.is_control) (moved_by slot (encode_entry who x) s (after_encode s.control.place x (at_next_place s.control)) s.control.phase s.control.taken same (omega arith) (λ none. refl) (rw fine refl) kept.home)
+      let w = message_there x some in
+      rw (after, ← kept.is_control) (sent_moved slot who x w.0 s w.1 (ap (may_call x) kept.is_control ∙ may) (call_error x s.control) refl kept.home)
 
-  pub refusal_moves : {k' : Control} (who : Who) (detached : Bool) (x : DomError) → encode_error detached k ≡ Some x → k' ≡ at_next_place k → Moved slot (refused_encode who detached) kept.state k'
-  refusal_moves who detached x e after =
-      rw (after, ← kept.is_control) (next_moved slot (refused_encode who detached) kept.state (refusal_is who detached x kept.state (ap (encode_error detached) kept.is_control ∙ e)).steps kept.home)
+  pub made_moves : {next : Option Lent} {k' : Control} (who : Who) (x : Call) → sends x ≡ false → takes x ≡ false → may_call x k ≡ true → next ≡ kept_box (not (removes x && is_none (call_error x k))) slot → k' ≡ after_call (call_error x k) x k → Moved next (Entry.Call who x) kept.state k'
+  made_moves who x sends takes may slot_is after =
+      let s = kept.state in
+      rw (slot_is, after, ← kept.is_control) (made_moved slot who x s sends takes (ap (may_call x) kept.is_control ∙ may) (call_error x s.control) refl kept.home)
 
-  pub take_moves : {k' : Control} (who : Who) (n : ℕ) → may_take n k ≡ true → k' ≡ after_take (at_next_place k) → Moved slot (Entry.Take who n) kept.state k'
+  pub take_moves : {k' : Control} (who : Who) (n : ℕ) → may_take n k ≡ true → k' ≡ after_take (at_next_place k) → Moved slot (Entry.Call who (Call.Take n)) kept.state k'
   take_moves who n may after =
       let s = kept.state in
       let here : may_take n s.control ≡ true = ap (may_take n) kept.is_control ∙ may in
-      rw (after, ← kept.is_control) (moved_by slot (Entry.Take who n) s (after_take (at_next_place s.control)) s.control.phase (s.control.taken + 1) refl (omega arith) (λ none. absurd cc) (rw here refl) kept.home)
-
-  pub removal_moves : {next : Option Lent} {k' : Control} (who : Who) (r : Removal) → next ≡ kept_box (is_some (removal_error k)) slot → k' ≡ removal_of (removal_error k) r k → Moved next (removal_entry who r) kept.state k'
-  removal_moves who r slot_is after = rw (slot_is, after, ← kept.is_control) (by r (removal_error kept.state.control) refl (removal_is who r kept.state).steps)
-    where
-      by : (r : Removal) (o : Option DomError) → removal_error kept.state.control ≡ o → step (removal_entry who r) kept.state ≡ Some (remove_or_refuse o r kept.state) → Moved (kept_box (is_some o) slot) (removal_entry who r) kept.state (removal_of o r kept.state.control)
-      by Removal.Reset None e steps = removed_moved slot (removal_entry who Removal.Reset) kept.state _ Unconfigured refl (omega (arith, open_phase true kept.state.control.phase e)) steps kept.home
-      by Removal.Close None e steps = removed_moved slot (removal_entry who Removal.Close) kept.state _ Closed refl (omega arith) steps kept.home
-      by r (Some error) e steps = next_moved slot (removal_entry who r) kept.state steps kept.home
+      rw (after, ← kept.is_control) (moved_by slot (Entry.Call who (Call.Take n)) s (after_take (at_next_place s.control)) s.control.phase (s.control.taken + 1) refl (omega arith) (λ none. absurd cc) (rw here refl) kept.home)
 
   pub reclaim_moves : {k' : Control} (now : ℕ) → may_reclaim now k ≡ true → k' ≡ after_close (at_next_place k) → Moved None (Entry.Reclaim now) kept.state k'
   reclaim_moves now may after =
       let here : may_reclaim now kept.state.control ≡ true = rw kept.is_control may in
       rw (after, ← kept.is_control) (removed_moved slot (Entry.Reclaim now) kept.state (after_close (at_next_place kept.state.control)) Closed refl (omega arith) (rw here refl) kept.home)
 
-pub makes_more : {h : List Entry} {slot next : Option Lent} {k k' : Control} {e : Entry} (kept : IsKept h slot k) (m : Moved next e kept.state k') (spare spare' : ℕ) → Makes (record { opening = k.opening; history = h; spare = spare; slot = slot }) (record { opening = k'.opening; history = h ++ e ∷ []; spare = spare'; slot = next }) e
+pub makes_more : {h : List Entry} {slot next : Option Lent} {k k' : Control} {e : Entry} (kept : IsKept h slot k) (m : Moved next e kept.state k') (spare spare' : ℕ) (out out' : Out) → Makes (record { opening = k.opening; history = h; spare = spare; slot = slot; out = out }) (record { opening = k'.opening; history = h ++ e ∷ []; spare = spare'; slot = next; out = out' }) e
 unfolding kept_more
-makes_more kept m spare spare' =
+makes_more kept m spare spare' out out' =
     let more = kept_more kept m in
-    let is = state_is more spare' in
+    let is = state_is more spare' out' in
     record {
       same_opening = m.leaves.same_opening ∙ ap (λ (c : Control). c.opening) kept.is_control;
       longer = refl;
-      steps = rw (state_is kept spare, is) m.steps;
+      steps = rw (state_is kept spare out, is) m.steps;
       legal = rw is more.replays;
     }

@@ -1,5 +1,5 @@
 -- A codec as its history.
-use Rattle.std.specs.Prelude.{ℕ, ◌≡◌, ◌≤◌, ◌<◌, ◌+◌, ◌^◌, Bool, false, List, [], ◌∷◌, ◌++◌, length, drop, Option, Some, None, unwrap_or, if◌then◌else◌}
+use Rattle.std.specs.Prelude.{ℕ, ◌≡◌, ◌≤◌, ◌<◌, ◌+◌, ◌^◌, Bool, true, false, not, List, [], ◌∷◌, ◌++◌, length, drop, Option, Some, None, is_some, unwrap_or, if◌then◌else◌}
 use Rattle.wc_base.specs.declared.error.DomError.{DomError}
 use Rattle.wc_base.specs.declared.who.By.{By}
 use Rattle.wc_base.specs.declared.who.By.TheVariants as by
@@ -16,10 +16,12 @@ use Rattle.codec_model.specs.declared.entry.Item.{Item}
 use Rattle.codec_model.specs.declared.entry.Running.{Running}
 use Rattle.codec_model.specs.declared.entry.Shown.{Shown}
 use Rattle.codec_model.specs.Control.{Control, turn_closes, left}
-use Rattle.codec_model.specs.Replay.{State, opening_state, replay, nothing_given, step, entry_of, call_error}
-use Rattle.codec_model.specs.Shown.{each_shown, exception_of, units_shown}
-use Rattle.codec_core.specs.declared.reply.CallFault.{CallFault}
-use Rattle.codec_core.specs.declared.reply.CallFault.TheVariants as fault
+use Rattle.codec_model.specs.Replay.{State, opening_state, replay, nothing_given, step, call_error, sends}
+use Rattle.codec_model.specs.Held.{is_removal}
+use Rattle.codec_model.specs.declared.entry.Entry.TheVariants as entry
+use Rattle.codec_model.specs.Shown.{each_shown, exception_of, promise_of, units_shown}
+use Rattle.codec_core.specs.declared.out.Out.{Out}
+use Rattle.codec_core.specs.declared.out.Out.TheVariants as out
 use Rattle.codec_core.specs.Job.{CoderAt, stopped_box}
 use Rattle.codec_accounts.specs.Asked.{asked_at}
 use Rattle.codec_core.specs.Trace.{TraceValue}
@@ -31,6 +33,8 @@ pub record Codec : Type 0 where
   pub spare : ℕ
   -- the box that the codec holds
   pub slot : Option Lent
+  -- what went out with the item at work
+  pub out : Out
 
 -- the state after the history
 abbrev pub state_at : Codec → State
@@ -87,14 +91,30 @@ pub record OutputsWait (shown : List Shown) (waiting : List media.Unit) (k : Con
   pub took : k.taken ≤ k.shown
   pub others : waiting ≡ drop k.taken (units_shown shown)
 
+-- what went out with an item at work: the box that its codec had, stopped, or by its start at this place a box is asked for
+abbrev pub went_out : Bool → ℕ → Option Lent → Out
+went_out asks place coder = if asks then out.Asked place else out.With (stopped_box coder)
+
+-- what went out was asked for by the entry at this place
+abbrev pub IsOutOf : Out → Option ℕ → Type 0
+IsOutOf (out.With box) at = IsAskedAt at box
+IsOutOf (out.Asked place) at = at ≡ Some place
+
+-- the box that comes back, if one does: the one that went out, or one that was asked for by the item's start
+abbrev pub IsBack : Out → Option Lent → Type 0
+IsBack (out.With box) coder = stopped_box coder ≡ box
+IsBack (out.Asked place) coder = IsAskedAt (Some place) coder
+
 -- the entries are the history of the machine's state, each with what it showed, and there is a place for each entry that
 -- is left and for those that are kept
-pub record IsCore (t : TraceValue) (slot : Option Lent) (k : Control) (spare : ℕ) : Type 0 where
+pub record IsCore (t : TraceValue) (slot : Option Lent) (out : Out) (k : Control) (spare : ℕ) : Type 0 where
   pub kept : IsKept t.entries slot k
   pub shows : t.shown ≡ each_shown k.opening t.entries
   pub outputs : OutputsWait t.shown t.waiting k
   -- the box at home is the one that the codec asked for last
   pub own : IsAskedAt (asked_at k.opening t.entries) slot
+  -- and so is what went out
+  pub lent : is_some k.running ≡ true → IsOutOf out (asked_at k.opening t.entries)
   pub places : left k + spare + reclaims k.phase ≤ t.free
   -- what memory can hold
   pub fits : length t.entries + t.free < 2 ^ 63
@@ -137,12 +157,28 @@ item_parts i = (i.number, i.work)
 abbrev pub progress_of : Control → Option ℕ
 progress_of s = elim (s.phase) [ Unconfigured ↦ None | Configured ↦ s.progress | Closed ↦ None ]
 
--- the call's entry was made, and this is the exception that it shows
-pub record Replied (old new : Codec) (who : Who) (x : Call) (at : ℕ) (error : Option DomError) : Type 0 where
-  pub made : Makes old new (entry_of who x)
-  pub exception : exception_of x (call_error x (state_at old).control) ≡ error
-  pub is_place : at ≡ length old.history
+-- what a call leaves: its entry's place, its exception, its promise, and the box of a codec that it emptied
+pub record ReplyValue : Type 0 where
+  pub place : ℕ
+  pub exception : Option DomError
+  pub promise : Option ℕ
+  pub coder : Option Lent
 
-abbrev pub FaultIs : Codec → Codec → Who → Call → CallFault → Type 0
-FaultIs old new who x (fault.Dom error at) = Replied old new who x at (Some error)
-FaultIs old new who x fault.NoMemory = new ≡ old
+-- the box stays where this call removes nothing
+abbrev pub box_stays : Who → Call → State → Bool
+box_stays who x s = not (is_removal (entry.Call who x) s)
+
+-- a call that sends no message takes one of the places that are kept
+abbrev pub places_taken : Call → ℕ
+places_taken x = if sends x then 0 else 1
+
+-- the call's entry was made, and this is its reply
+pub record Replied (old new : Codec) (who : Who) (x : Call) (r : ReplyValue) : Type 0 where
+  pub made : Makes old new (entry.Call who x)
+  pub is_place : r.place ≡ length old.history
+  pub exception : exception_of x (call_error x (state_at old).control) ≡ r.exception
+  pub promise : promise_of x r.place ≡ r.promise
+  pub slot : new.slot ≡ kept_box (box_stays who x (state_at old)) old.slot
+  pub coder : r.coder ≡ handed_back (box_stays who x (state_at old)) old.slot
+  pub out : new.out ≡ old.out
+  pub spare : new.spare + places_taken x ≡ old.spare

@@ -1,24 +1,25 @@
 // One codec, which keeps its history.
-ghost use Rattle.std.specs.Prelude.{◌≡◌, ◌==◌, max, ◌≤◌, ◌+◌, ◌^◌, IfOk, IfErr, IfNone, IfSome, OnSome, OnOk, OnErr, None, Some, [], length, map, option_map, not, is_some, slice_get, false, true};
+ghost use Rattle.std.specs.Prelude.{◌≡◌, ◌==◌, max, ◌≤◌, ◌+◌, ◌^◌, IfOk, IfNone, IfSome, OnSome, OnOk, OnErr, None, Some, [], length, map, option_map, not, is_some, slice_get, false, true};
 ghost use Rattle.codec_model.specs.declared.entry.Entry.TheVariants as entry;
+ghost use Rattle.codec_model.specs.declared.entry.Call.TheVariants as call;
 ghost use Rattle.codec_model.specs.Control.{start_item, may_take, may_reclaim};
-ghost use Rattle.codec_model.specs.Replay.{entry_of, encode_entry, refused_encode, removal_entry as the_removal_entry, call_error, encode_error, missing_coder, removal_error, IsLegal};
+ghost use Rattle.codec_model.specs.Replay.{may_call, sends, takes, encode_error, missing_coder, IsLegal};
 ghost use Rattle.codec_model.specs.Facts.{IsNeverStuck};
-ghost use Rattle.codec_model.specs.Shown.{shown, shown_of, promise_of, outputs_of, each_shown, ends_in, promise_state, exception_of};
+ghost use Rattle.codec_model.specs.Shown.{shown, shown_of, outputs_of, each_shown, ends_in, promise_state};
+ghost use Rattle.codec_core.specs.declared.out.Out.TheVariants.{With};
 ghost use Rattle.codec_core.specs.Job.{IsJobOf, IsEndOf, outcome_of, missing_id, stopped_box};
-ghost use Rattle.codec_core.specs.Owning.{asked_of, IsOwnJob, GoesBack, KeepsAsked};
-ghost use Rattle.codec_core.specs.Codec.{state_at, Makes, IsAskedAt, KeepsRunning, Replied, FaultIs, kept_box, handed_back, removed_if, closes_now, progress_of, item_parts};
+ghost use Rattle.codec_core.specs.Owning.{IsOwnJob, GoesBack};
+ghost use Rattle.codec_core.specs.Codec.{state_at, Makes, IsBack, KeepsRunning, Replied, kept_box, handed_back, removed_if, closes_now, progress_of, item_parts, went_out};
 
 use crate::job::{DoneJob, Job};
-use crate::parts::{hand_back, more_places, removed_if};
-use crate::reply::{Back, CallFault, Removed, Reply, Taken, Turned};
+use crate::out::{Out, went_out};
+use crate::parts::{box_stays, hand_back, more_places, removed_if};
+use crate::reply::{Back, Removed, Reply, Turned};
 use crate::trace::Trace;
-use crate::work::outcome_of_end;
-use codec_model::{
-    Call, CodecState, Entry, HeldSound, Kind, Opening, PromiseState, Removal, Showing, never_stuck,
-};
+use crate::work::{missing_id, outcome_of_end};
+use codec_model::{Call, CodecState, Entry, Kind, Opening, PromiseState, Showing, never_stuck};
 use codec_queues::Machine;
-use coder_api::{Coder, SlotBox};
+use coder_api::{Coder, SlotBox, Unit};
 use std::alloc::Global;
 use std::marker::Model;
 use std::mem;
@@ -29,6 +30,7 @@ use wc_base::{DomError, NoMemory, Who};
 #[derive(Drop)]
 pub struct Core<C: Coder> {
     slot: Option<SlotBox<C>>,
+    out: Out,
     machine: Machine,
     trace: Trace,
     spare: usize,
@@ -39,9 +41,9 @@ impl<C: Coder> Model for Core<C> {
 
     ghost Value = { Codec };
 
-    ghost view = { λ c. record { opening = c.machine.opening; history = c.trace.entries; spare = c.spare; slot = c.slot } };
+    ghost view = { λ c. record { opening = c.machine.opening; history = c.trace.entries; spare = c.spare; slot = c.slot; out = c.out } };
 
-    ghost invariant = { λ c. IsCore c.trace c.slot c.machine c.spare };
+    ghost invariant = { λ c. IsCore c.trace c.slot c.out c.machine c.spare };
 }
 
 impl<C: Coder> Core<C> {
@@ -61,6 +63,7 @@ impl<C: Coder> Core<C> {
         let trace = Trace::open(alloc, places)?;
         Ok(Core {
             slot: None,
+            out: Out::With(None),
             machine,
             trace,
             spare,
@@ -152,48 +155,6 @@ impl<C: Coder> Core<C> {
         }
     }
 
-    /// A configure, decode or flush of a caller. It is refused with an exception exactly where its algorithm refuses it
-    /// (W3C WebCodecs, AudioDecoder: `configure`, `decode`, `flush`), and has an entry then too; a flush never is: its
-    /// promise is rejected. All places that its later steps need are taken here. After want of memory nothing has
-    /// changed.
-    pub fn call(&mut self, who: Who, call: Call) -> Result<Reply, CallFault>
-        ensures ok { IfOk result (λ reply. Replied self.old self.new who call reply.place None) }
-        ensures promise { IfOk result (λ reply. reply.promise ≡ promise_of call reply.place) }
-        ensures err { IfErr result (FaultIs self.old self.new who call) }
-        ensures running { KeepsRunning (state_at self.old) (state_at self.new) }
-        ensures asked { KeepsAsked self.old self.new }
-        ensures slot { self.new.slot ≡ self.old.slot }
-        ensures spare { self.new.spare ≡ self.old.spare }
-    {
-        let promise = call.promise(self.machine.place());
-        match self.make(who, call) {
-            Ok((place, None)) => Ok(Reply { place, promise }),
-            Ok((place, Some(error))) => Err(CallFault::Dom { error, place }),
-            Err(NoMemory) => Err(CallFault::NoMemory),
-        }
-    }
-
-    /// Makes a call's entry, with all places that its later steps take. The answer is the entry's place, and the call's
-    /// exception.
-    fn make(&mut self, who: Who, call: Call) -> Result<(u64, Option<DomError>), NoMemory>
-        ensures made { OnOk result (Makes self.old self.new (entry_of who call)) }
-        ensures place { IfOk result (λ a. a.0 ≡ length self.old.history) }
-        ensures exception { IfOk result
-            (λ a. a.1 ≡ exception_of call (call_error call (state_at self.old).control)) }
-        ensures err { OnErr result (self.new ≡ self.old) }
-        ensures running { KeepsRunning (state_at self.old) (state_at self.new) }
-        ensures asked { KeepsAsked self.old self.new }
-        ensures slot { self.new.slot ≡ self.old.slot }
-        ensures spare { self.new.spare ≡ self.old.spare }
-    {
-        let entry = call.entry(who)?;
-        let places = more_places(self.machine.room(), self.spare)?;
-        self.trace.reserve(places)?;
-        let answer = self.machine.call(call)?;
-        self.trace.push(entry, answer.showing);
-        Ok((answer.place, answer.exception))
-    }
-
     /// The error with which an encode would be refused now: of detached data first.
     pub fn encode_refusal(&self, detached: bool) -> Option<DomError>
         ensures { result ≡ encode_error detached (state_at self.now).control }
@@ -201,101 +162,129 @@ impl<C: Coder> Core<C> {
         self.machine.encode_error(detached)
     }
 
-    /// An encode of a caller that is not refused, with the reference that the codec holds from then on (W3C WebCodecs,
-    /// AudioEncoder: `encode`). All places that its later steps need are taken here. The answer is its entry's place. After
-    /// want of memory nothing has changed.
-    pub fn encode(&mut self, who: Who, sound: HeldSound) -> Result<u64, NoMemory>
-        requires { encode_error false (state_at self.old).control ≡ None }
-        ensures made { OnOk result
-            (Makes self.old self.new (encode_entry who sound)) }
-        ensures place { IfOk result (λ place. place ≡ length self.old.history) }
-        ensures err { OnErr result (self.new ≡ self.old) }
-        ensures running { KeepsRunning (state_at self.old) (state_at self.new) }
-        ensures asked { KeepsAsked self.old self.new }
-        ensures slot { self.new.slot ≡ self.old.slot }
-        ensures spare { self.new.spare ≡ self.old.spare }
+    /// The first output that was shown and not taken yet, which is the one that the next take gets; its number is `taken`.
+    /// None exactly where there is none.
+    pub fn next_output(&self) -> Option<&Unit>
+        ensures may { let control = (state_at self.now).control in
+            is_some result ≡ may_take control.taken control }
+        ensures unit { IfSome result
+            (λ u. slice_get (outputs_of (shown self.now.opening self.now.history))
+            (state_at self.now).control.taken
+            ≡ Some u.now) }
     {
-        let again = sound.copy()?;
-        let places = more_places(self.machine.room(), self.spare)?;
-        self.trace.reserve(places)?;
-        let answer = self.machine.encode(again)?;
-        self.trace
-            .push(Entry::of_encode(who, sound), answer.showing);
-        Ok(answer.place)
+        self.trace.next_output()
     }
 
-    /// An encode of a caller that is refused, of data that is detached or is not, and has an entry then too. The answer is
-    /// its exception, and its entry's place. After want of memory nothing has changed.
-    pub fn refuse_encode(&mut self, who: Who, detached: bool) -> Result<(DomError, u64), NoMemory>
-        requires { is_some (encode_error detached (state_at self.old).control) ≡ true }
-        ensures made { OnOk result
-            (Makes self.old self.new (refused_encode who detached)) }
-        ensures error { IfOk result
-            (λ a. encode_error detached (state_at self.old).control ≡ Some a.0) }
-        ensures place { IfOk result (λ a. a.1 ≡ length self.old.history) }
-        ensures err { OnErr result (self.new ≡ self.old) }
-        ensures running { KeepsRunning (state_at self.old) (state_at self.new) }
-        ensures asked { KeepsAsked self.old self.new }
-        ensures slot { self.new.slot ≡ self.old.slot }
-        ensures spare { self.new.spare ≡ self.old.spare }
+    /// How many outputs were taken, which is the number of the next one.
+    pub fn taken(&self) -> u64
+        ensures { result ≡ (state_at self.now).control.taken }
     {
-        let places = more_places(self.machine.room(), self.spare)?;
-        self.trace.reserve(places)?;
-        let answer = match self.machine.refuse_encode(detached) {
-            Some(answer) => answer,
-            None => unreachable!(),
-        };
-        let error = match answer.exception {
-            Some(error) => error,
-            None => unreachable!(),
-        };
-        self.trace
-            .push(Entry::of_refused_encode(who, detached), answer.showing);
-        Ok((error, answer.place))
+        self.machine.taken()
     }
 
-    /// A caller takes the first output that was shown and not taken yet. None exactly where there is none; then nothing has
-    /// changed, as after want of memory.
-    pub fn take(&mut self, who: Who) -> Result<Option<Taken>, NoMemory>
-        ensures may { IfOk result
-            (λ taken. is_some taken
-            ≡ may_take (state_at self.old).control.taken (state_at self.old).control) }
-        ensures made { IfOk result
-            (λ taken. IfSome taken (λ t. Makes self.old self.new (entry.Take who t.number))) }
-        ensures place { IfOk result
-            (λ taken. IfSome taken (λ t. t.place ≡ length self.old.history)) }
-        ensures number { IfOk result
-            (λ taken. IfSome taken (λ t. t.number ≡ (state_at self.old).control.taken)) }
-        ensures unit { IfOk result
-            (λ taken. IfSome taken
-            (λ t. slice_get (outputs_of (shown self.old.opening self.old.history)) t.number
-            ≡ Some t.unit)) }
-        ensures none { IfOk result (λ taken. IfNone taken (self.new ≡ self.old)) }
-        ensures err { OnErr result (self.new ≡ self.old) }
+    /// A call of a caller (W3C WebCodecs: `configure`, `decode`, `encode`, `flush`, `reset`, `close`; to take an output is
+    /// our choice). It has an entry, refused or not. A flush is never refused with an exception: its promise is rejected. An
+    /// encode says what becomes of its data, as `encode_refusal` tells; a take has the number of the next output. A call
+    /// that sends a message takes all places that its later steps need; only such a call may want memory, and then nothing
+    /// has changed. Any other takes one of the places that are kept.
+    pub fn call(&mut self, who: Who, call: Call) -> Result<Reply<C>, NoMemory>
+        requires may { may_call call (state_at self.old).control ≡ true }
+        requires spare { sends call ≡ false → 1 ≤ self.old.spare }
+        ensures replied { IfOk result (Replied self.old self.new who call) }
+        ensures lets { IfOk result (λ r. GoesBack self.new r.place r.coder) }
         ensures running { KeepsRunning (state_at self.old) (state_at self.new) }
-        ensures asked { KeepsAsked self.old self.new }
-        ensures slot { self.new.slot ≡ self.old.slot }
-        ensures spare { self.new.spare ≡ self.old.spare }
+        ensures cause { OnErr result (sends call ≡ true) }
+        ensures err { OnErr result (self.new ≡ self.old) }
     {
-        let unit = match self.trace.next_output()? {
-            Some(unit) => unit,
-            None => return Ok(None),
-        };
+        if call.sends() {
+            self.send(who, call)
+        } else {
+            match call {
+                Call::Take(unit) => Ok(self.take(who, unit)),
+                call => Ok(self.make(who, call)),
+            }
+        }
+    }
+
+    /// Makes the entry of a call that sends a message, with all places that its later steps take.
+    fn send(&mut self, who: Who, call: Call) -> Result<Reply<C>, NoMemory>
+        requires may { may_call call (state_at self.old).control ≡ true }
+        requires sends { sends call ≡ true }
+        ensures replied { IfOk result (Replied self.old self.new who call) }
+        ensures none { IfOk result (λ r. r.coder ≡ None) }
+        ensures running { KeepsRunning (state_at self.old) (state_at self.new) }
+        ensures err { OnErr result (self.new ≡ self.old) }
+    {
+        never_stuck();
+        let promise = call.promise(self.machine.place());
+        let again = call.copy()?;
         let places = more_places(self.machine.room(), self.spare)?;
         self.trace.reserve(places)?;
-        let place = self.machine.place();
-        let number = match self.machine.take() {
-            Some(number) => number,
-            None => unreachable!(),
+        let answer = self.machine.call(again)?;
+        self.trace.push(Entry::Call { who, call }, answer.showing);
+        Ok(Reply {
+            place: answer.place,
+            exception: answer.exception,
+            promise,
+            coder: None,
+        })
+    }
+
+    /// Makes the entry of a call that sends no message and takes no output.
+    fn make(&mut self, who: Who, call: Call) -> Reply<C>
+        requires may { may_call call (state_at self.old).control ≡ true }
+        requires sends { sends call ≡ false }
+        requires takes { takes call ≡ false }
+        requires spare { 1 ≤ self.old.spare }
+        ensures replied { Replied self.old self.new who call result }
+        ensures lets { GoesBack self.new result.place result.coder }
+        ensures running { KeepsRunning (state_at self.old) (state_at self.new) }
+    {
+        never_stuck();
+        let promise = call.promise(self.machine.place());
+        let removes = call.removes();
+        let again = match call.copy() {
+            Ok(again) => again,
+            Err(NoMemory) => unreachable!(),
+        };
+        let answer = match self.machine.call(again) {
+            Ok(answer) => answer,
+            Err(NoMemory) => unreachable!(),
+        };
+        let stays = box_stays(removes, answer.exception);
+        let coder = hand_back(&mut self.slot, stays);
+        self.spare -= 1;
+        self.trace.push(Entry::Call { who, call }, answer.showing);
+        Reply {
+            place: answer.place,
+            exception: answer.exception,
+            promise,
+            coder,
+        }
+    }
+
+    /// Makes the entry of a take.
+    fn take(&mut self, who: Who, unit: u64) -> Reply<C>
+        requires may { may_take unit (state_at self.old).control ≡ true }
+        requires spare { 1 ≤ self.old.spare }
+        ensures replied { Replied self.old self.new who (call.Take unit) result }
+        ensures none { result.coder ≡ None }
+        ensures running { KeepsRunning (state_at self.old) (state_at self.new) }
+    {
+        let answer = match self.machine.call(Call::Take(unit)) {
+            Ok(answer) => answer,
+            Err(NoMemory) => unreachable!(),
         };
         self.trace.pass_output();
-        let entry = Entry::Take { who, unit: number };
-        self.trace.push(entry, Showing::Nothing);
-        Ok(Some(Taken {
-            place,
-            number,
-            unit,
-        }))
+        self.spare -= 1;
+        let call = Call::Take(unit);
+        self.trace.push(Entry::Call { who, call }, answer.showing);
+        Reply {
+            place: answer.place,
+            exception: None,
+            promise: None,
+            coder: None,
+        }
     }
 
     /// The front item of the work queue becomes running, and its job leaves with the box that the codec holds. Where the
@@ -315,7 +304,9 @@ impl<C: Coder> Core<C> {
         ensures lacks { IfSome result
             (λ job. missing_id job ≡ missing_coder (state_at self.old).given job.work) }
         ensures slot { OnSome result (self.new.slot ≡ None) }
-        ensures own { IfSome result (IsOwnJob (asked_of self.new)) }
+        ensures out { IfSome result
+            (λ job. self.new.out ≡ went_out (is_some (missing_id job)) job.place job.coder) }
+        ensures own { IfSome result (IsOwnJob self.new.out) }
         ensures lets { IfSome result
             (λ job. is_some (missing_id job) ≡ true → GoesBack self.new job.place job.coder) }
         ensures spare { self.new.spare ≡ self.old.spare }
@@ -324,6 +315,8 @@ impl<C: Coder> Core<C> {
         let epoch = self.machine.epoch();
         let item = self.machine.start()?;
         let coder = mem::replace(&mut self.slot, None);
+        let asks = missing_id(&item.work, &coder).is_some();
+        self.out = went_out(asks, place, &coder);
         let number = item.number;
         let entry = Entry::Start {
             epoch,
@@ -344,7 +337,7 @@ impl<C: Coder> Core<C> {
     /// handed back where the codec was reset or closed since the item began.
     pub fn done(&mut self, d: DoneJob<C>, moment: u64) -> Back<C>
         requires end { IsEndOf (state_at self.old) d }
-        requires own { IsAskedAt (asked_of self.old) d.coder }
+        requires own { IsBack self.old.out d.coder }
         ensures made { Makes self.old self.new
             (entry.Done d.epoch d.number moment (outcome_of d.ended)) }
         ensures idle { (state_at self.new).control.running ≡ None }
@@ -354,6 +347,7 @@ impl<C: Coder> Core<C> {
         ensures back { result.coder
             ≡ handed_back (d.epoch == (state_at self.old).control.epoch) d.coder }
         ensures lets { GoesBack self.new result.place result.coder }
+        ensures out { self.new.out ≡ With None }
         ensures spare { self.new.spare ≡ self.old.spare }
     {
         let place = self.machine.place();
@@ -370,6 +364,7 @@ impl<C: Coder> Core<C> {
         self.machine.done(ended, moment, label);
         let back = hand_back(&mut coder, current);
         self.slot = coder;
+        self.out = Out::With(None);
         let entry = Entry::Done {
             epoch,
             item,
@@ -395,7 +390,7 @@ impl<C: Coder> Core<C> {
         ensures slot { self.new.slot
             ≡ kept_box (not (closes_now (state_at self.old).control)) self.old.slot }
         ensures running { KeepsRunning (state_at self.old) (state_at self.new) }
-        ensures asked { KeepsAsked self.old self.new }
+        ensures out { self.new.out ≡ self.old.out }
         ensures spare { self.new.spare ≡ self.old.spare }
     {
         never_stuck();
@@ -406,55 +401,6 @@ impl<C: Coder> Core<C> {
         let removed = removed_if(closes, place, coder);
         self.trace.push(Entry::Turn, answer.showing);
         Some(Turned { place, removed })
-    }
-
-    /// A caller's reset or close (W3C WebCodecs, AudioDecoder: `reset`, `close`): everything queued is removed, each pending
-    /// promise is rejected with `AbortError`, the box that is at home is handed back, and a close closes the codec. A closed
-    /// codec refuses it with `InvalidStateError`; the answer then has the entry's place beside the error.
-    pub fn remove(&mut self, who: Who, removal: Removal) -> Result<Removed<C>, (DomError, u64)>
-        requires { 1 ≤ self.old.spare }
-        ensures made { Makes self.old self.new (the_removal_entry who removal) }
-        ensures ok { IfOk result (λ r. removal_error (state_at self.old).control ≡ None) }
-        ensures removed { IfOk result
-            (λ r. r
-            ≡ record { place = length self.old.history; coder = stopped_box self.old.slot }) }
-        ensures lets { IfOk result (λ r. GoesBack self.new r.place r.coder) }
-        ensures err { IfErr result (λ e. removal_error (state_at self.old).control ≡ Some e.0) }
-        ensures place { IfErr result (λ e. e.1 ≡ length self.old.history) }
-        ensures slot { self.new.slot
-            ≡ kept_box (is_some (removal_error (state_at self.old).control)) self.old.slot }
-        ensures running { KeepsRunning (state_at self.old) (state_at self.new) }
-        ensures asked { KeepsAsked self.old self.new }
-        ensures spare { self.new.spare + 1 ≡ self.old.spare }
-    {
-        let (removed, error) = self.make_removal(who, removal);
-        match error {
-            None => Ok(removed),
-            Some(error) => Err((error, removed.place)),
-        }
-    }
-
-    /// Makes the entry of a reset or close. The answer has its exception.
-    fn make_removal(&mut self, who: Who, removal: Removal) -> (Removed<C>, Option<DomError>)
-        requires { 1 ≤ self.old.spare }
-        ensures made { Makes self.old self.new (the_removal_entry who removal) }
-        ensures place { result.0.place ≡ length self.old.history }
-        ensures coder { result.0.coder ≡ handed_back (is_some result.1) self.old.slot }
-        ensures lets { GoesBack self.new result.0.place result.0.coder }
-        ensures exception { removal_error (state_at self.old).control ≡ result.1 }
-        ensures slot { self.new.slot ≡ kept_box (is_some result.1) self.old.slot }
-        ensures running { KeepsRunning (state_at self.old) (state_at self.new) }
-        ensures asked { KeepsAsked self.old self.new }
-        ensures spare { self.new.spare + 1 ≡ self.old.spare }
-    {
-        never_stuck();
-        let answer = self.machine.remove(removal);
-        let coder = hand_back(&mut self.slot, answer.exception.is_some());
-        self.spare -= 1;
-        let entry = removal.entry(who);
-        self.trace.push(entry, answer.showing);
-        let place = answer.place;
-        (Removed { place, coder }, answer.exception)
     }
 
     /// The codec is reclaimed at a moment in microseconds: closed with `QuotaExceededError`. None exactly where that may
@@ -470,7 +416,7 @@ impl<C: Coder> Core<C> {
         ensures lets { IfSome result (λ r. GoesBack self.new r.place r.coder) }
         ensures slot { OnSome result (self.new.slot ≡ None) }
         ensures running { KeepsRunning (state_at self.old) (state_at self.new) }
-        ensures asked { KeepsAsked self.old self.new }
+        ensures out { self.new.out ≡ self.old.out }
         ensures spare { self.new.spare ≡ self.old.spare }
     {
         never_stuck();

@@ -1,7 +1,8 @@
 // The work of one item, which leaves the codec and comes back done.
-ghost use Rattle.std.specs.Prelude.{◌≡◌, ℕ, None, Option, Some, is_some, true};
+ghost use Rattle.std.specs.Prelude.{◌≡◌, None, Some, is_some, true};
 ghost use Rattle.codec_core.specs.Job.{IsJob, IsJobOf, IsEndOf, EndsBy, missing_id, stopped_box, with_box, done_with, wants};
-ghost use Rattle.codec_core.specs.Codec.{IsBy, IsAskedAt};
+ghost use Rattle.codec_core.specs.declared.out.Out.{Out};
+ghost use Rattle.codec_core.specs.Codec.{IsBy, IsBack};
 ghost use Rattle.codec_core.specs.Owning.{IsOwnJob};
 ghost use Rattle.codec_model.specs.Control.{kind_of, held_of};
 ghost use Rattle.codec_model.specs.Replay.{State, Given, answer_to};
@@ -97,7 +98,7 @@ impl<C: Coder> Job<C> {
         ensures left { self.new ≡ with_box None self.old }
         ensures lacks { missing_id self.new ≡ missing_id self.old }
         ensures stays { (s : State) → IsJobOf s self.old → IsJobOf s self.new }
-        ensures own { (at : Option ℕ) → IsOwnJob at self.old → IsOwnJob at self.new }
+        ensures own { (out : Out) → IsOwnJob out self.old → IsOwnJob out self.new }
     {
         let mut coder = self.coder.take()?;
         coder.stop();
@@ -112,7 +113,7 @@ impl<C: Coder> Job<C> {
         ensures put { self.new ≡ with_box (Some coder) self.old }
         ensures serves { missing_id self.new ≡ None }
         ensures stays { (s : State) → IsJobOf s self.old → IsJobOf s self.new }
-        ensures own { (at : Option ℕ) → IsOwnJob at self.old → IsOwnJob at self.new }
+        ensures own { (out : Out) → IsOwnJob out self.old → IsOwnJob out self.new }
     {
         self.coder = Some(coder);
     }
@@ -123,7 +124,7 @@ impl<C: Coder> Job<C> {
         requires none { self.coder ≡ None }
         ensures done { result ≡ done_with (ended.NoSlot entry) self }
         ensures end { (s : State) → IsJobOf s self → IsEndOf s result }
-        ensures own { (at : Option ℕ) → IsOwnJob at self → IsAskedAt at result.coder }
+        ensures own { (out : Out) → IsOwnJob out self → IsBack out result.coder }
     {
         self.ended(Ended::NoSlot(entry))
     }
@@ -133,7 +134,7 @@ impl<C: Coder> Job<C> {
         requires none { is_some (missing_id self) ≡ true → self.coder ≡ None }
         ensures done { result ≡ done_with ended.NoMemory self }
         ensures end { (s : State) → IsJobOf s self → IsEndOf s result }
-        ensures own { (at : Option ℕ) → IsOwnJob at self → IsAskedAt at result.coder }
+        ensures own { (out : Out) → IsOwnJob out self → IsBack out result.coder }
     {
         self.ended(Ended::NoMemory)
     }
@@ -164,7 +165,7 @@ impl<C: Coder> Job<C> {
         ensures number { result.number ≡ self.number }
         ensures kind { result.kind ≡ kind_of self.work }
         ensures same { stopped_box result.coder ≡ stopped_box self.coder }
-        ensures own { (at : Option ℕ) → IsOwnJob at self → IsAskedAt at result.coder }
+        ensures own { (out : Out) → IsOwnJob out self → IsBack out result.coder }
     {
         let Job {
             epoch,

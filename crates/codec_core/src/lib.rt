@@ -4,6 +4,7 @@
 mod codec;
 mod job;
 mod labels;
+mod out;
 mod parts;
 mod reply;
 mod trace;
@@ -11,4 +12,5 @@ mod work;
 
 pub use codec::Core;
 pub use job::{DoneJob, Job};
-pub use reply::{Back, CallFault, Removed, Reply, Taken, Turned};
+pub use out::{BoxName, Out};
+pub use reply::{Back, Removed, Reply, Turned};

@@ -1,10 +1,10 @@
 // Parts of a codec's steps.
-ghost use Rattle.std.specs.Prelude.{◌≡◌, ◌+◌, IfOk};
+ghost use Rattle.std.specs.Prelude.{◌≡◌, ◌+◌, ◌&&◌, not, is_none, IfOk};
 ghost use Rattle.codec_core.specs.Codec.{kept_box, handed_back, removed_if};
 
 use crate::reply::Removed;
 use coder_api::{Coder, SlotBox};
-use wc_base::NoMemory;
+use wc_base::{DomError, NoMemory};
 
 /// Leaves a box where it stays, and else takes it out, stopped.
 pub(crate) fn hand_back<C: Coder>(slot: &mut Option<SlotBox<C>>, stays: bool) -> Option<SlotBox<C>>
@@ -17,6 +17,13 @@ pub(crate) fn hand_back<C: Coder>(slot: &mut Option<SlotBox<C>>, stays: bool) ->
     let mut coder = slot.take()?;
     coder.stop();
     Some(coder)
+}
+
+/// Whether the box stays at a call that removes all that is queued, where it is not refused, or does not.
+pub(crate) fn box_stays(removes: bool, exception: Option<DomError>) -> bool
+    ensures { result ≡ not (removes && is_none exception) }
+{
+    !(removes && exception.is_none())
 }
 
 pub(crate) fn removed_if<C: Coder>(

@@ -1,30 +1,25 @@
 // What a codec answers.
-use coder_api::{Coder, SlotBox, Unit};
+use coder_api::{Coder, SlotBox};
 use std::marker::Model;
 use wc_base::DomError;
 
-/// The answer to a call: its entry's place, and for a flush its promise, which has this place as its name.
-#[derive(Clone, Copy, Debug, PartialEq, Eq)]
-pub struct Reply {
-    pub place: u64,
-    pub promise: Option<u64>,
-}
-
-/// Why a call was refused.
-#[derive(Clone, Copy, Debug, PartialEq, Eq)]
-pub enum CallFault {
-    /// With an exception; the refused call has an entry.
-    Dom { error: DomError, place: u64 },
-    /// Memory was wanted: nothing has changed.
-    NoMemory,
-}
-
-/// What a take gives: its entry's place, the output's number, and the output again.
+/// The answer to a call: its entry's place, the exception with which it was refused, if it was, the promise of a flush, which
+/// has the place as its name, and of a reset or close that was not refused the box that was at home, stopped. Who gets the
+/// box gives it back.
 #[derive(Drop)]
-pub struct Taken {
+pub struct Reply<C: Coder> {
     pub place: u64,
-    pub number: u64,
-    pub unit: Unit,
+    pub exception: Option<DomError>,
+    pub promise: Option<u64>,
+    pub coder: Option<SlotBox<C>>,
+}
+
+impl<C: Coder> Model for Reply<C> {
+    ghost use Rattle.codec_core.specs.Codec.{ReplyValue};
+
+    ghost Value = { ReplyValue };
+
+    ghost view = { λ r. record { place = r.place; exception = r.exception; promise = r.promise; coder = r.coder } };
 }
 
 /// What a removal leaves: its entry's place, and the box that was at home, stopped. Who gets it gives the box back.

@@ -1,5 +1,5 @@
 // The entries of a codec, with what each showed.
-ghost use Rattle.std.specs.Prelude.{ℕ, ◌≡◌, ◌≤◌, ◌<◌, ◌+◌, ◌-◌, ◌^◌, ◌++◌, ◌∷◌, [], List, max, length, drop, slice_get, map, IfOk, IfSome, OnOk, OnErr, Option, vec_len, vec_capacity};
+ghost use Rattle.std.specs.Prelude.{ℕ, ◌≡◌, ◌≤◌, ◌<◌, ◌+◌, ◌-◌, ◌^◌, ◌++◌, ◌∷◌, [], List, max, length, drop, slice_get, map, option_map, IfOk, IfSome, OnOk, OnErr, Option, vec_len, vec_capacity};
 ghost use Rattle.std.specs.List.{All, AllByRecursion};
 ghost use Rattle.codec_model.specs.declared.entry.PromiseEnd.{PromiseEnd};
 ghost use Rattle.codec_model.specs.Control.{front};
@@ -86,16 +86,23 @@ impl Trace {
         end_promises(&mut self.promises, &showing);
         self.shown.push_reserved(showing);
         self.entries.push_reserved(entry);
+        self.pass_empty();
     }
 
-    /// The first output that was not taken, again. Entries without outputs that come before it are passed for good.
-    pub(crate) fn next_output(&mut self) -> Result<Option<Unit>, NoMemory>
-        ensures same { self.new ≡ self.old }
-        ensures next { IfOk result (λ unit. unit ≡ front self.old.waiting) }
+    /// Entries without outputs that are left to take are passed for good.
+    fn pass_empty(&mut self)
+        ensures { self.new ≡ self.old }
     {
         let (entry, unit) = seek(self.shown.as_slice(), self.next_entry, self.next_unit);
         self.next_entry = entry;
         self.next_unit = unit;
+    }
+
+    /// The first output that was not taken.
+    pub(crate) fn next_output(&self) -> Option<&Unit>
+        ensures { option_map (λ u. u.now) result ≡ front self.now.waiting }
+    {
+        let (entry, unit) = seek(self.shown.as_slice(), self.next_entry, self.next_unit);
         output_at(self.shown.as_slice(), entry, unit)
     }
 
@@ -171,26 +178,22 @@ fn outputs_of_task(task: &Task) -> &[Unit]
     }
 }
 
-/// The output at a place, again.
-fn copy_at(units: &[Unit], place: usize) -> Result<Option<Unit>, NoMemory>
-    ensures { IfOk result (λ unit. unit ≡ slice_get units.now place) }
+fn unit_at(units: &[Unit], place: usize) -> Option<&Unit>
+    ensures { option_map (λ u. u.now) result ≡ slice_get units.now place }
 {
-    match units.get(place) {
-        Some(unit) => Ok(Some(unit.copy()?)),
-        None => Ok(None),
-    }
+    units.get(place)
 }
 
-/// An output that an entry showed, again; none behind the last entry.
-fn output_at(shown: &[Showing], entry: usize, unit: usize) -> Result<Option<Unit>, NoMemory>
+/// An output that an entry showed; none behind the last entry.
+fn output_at(shown: &[Showing], entry: usize, unit: usize) -> Option<&Unit>
     requires { IfSome (slice_get shown.now entry)
         (λ showing. unit < length (units_in (shown_of showing).events)) }
-    ensures { IfOk result
-        (λ u. u ≡ front (outputs_behind entry unit (map shown_of shown.now))) }
+    ensures { option_map (λ u. u.now) result
+        ≡ front (outputs_behind entry unit (map shown_of shown.now)) }
 {
     match shown.get(entry) {
-        Some(showing) => copy_at(outputs_of(showing), unit),
-        None => Ok(None),
+        Some(showing) => unit_at(outputs_of(showing), unit),
+        None => None,
     }
 }
 

@@ -4,9 +4,9 @@ use Rattle.std.specs.List.{flat_map, range_with_len}
 use Rattle.wc_config.specs.declared.config.AudioEncoderConfig.{AudioEncoderConfig}
 use Rattle.wc_config.specs.declared.stream_info.StreamInfo.{StreamInfo}
 use Rattle.flac_definitions.specs.Bits.{number_of}
-use Rattle.flac_description.specs.Descriptions.{description_bits}
-use Rattle.flac_blocks.specs.Frames.{frame_bits}
-use Rattle.flac_blocks.specs.declared.mode.BlockFormat.{BlockFormat}
+use Rattle.flac_definitions.specs.Descriptions.{description_bits}
+use Rattle.flac_definitions.specs.FrameWriting.{frame_bits}
+use Rattle.flac_definitions.specs.declared.mode.BlockFormat.{BlockFormat}
 
 abbrev pub format_of : AudioEncoderConfig → BlockFormat
 format_of c = record { rate = c.rate; channels = c.channels; depth = c.depth; level = c.level }

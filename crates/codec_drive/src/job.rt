@@ -1,6 +1,7 @@
 // Does jobs.
-ghost use Rattle.std.specs.Prelude.{◌≡◌, ℕ, Option, None};
-ghost use Rattle.codec_core.specs.Codec.{IsAskedAt};
+ghost use Rattle.std.specs.Prelude.{◌≡◌, None};
+ghost use Rattle.codec_core.specs.declared.out.Out.{Out};
+ghost use Rattle.codec_core.specs.Codec.{IsBack};
 ghost use Rattle.codec_core.specs.Owning.{IsOwnJob};
 ghost use Rattle.codec_core.specs.Job.{IsJob, IsJobOf, IsEndOf, EndsBy, missing_id, stopped_box};
 ghost use Rattle.codec_model.specs.Control.{kind_of};
@@ -22,7 +23,7 @@ pub fn run<C: Coder>(alloc: Global, job: Job<C>) -> DoneJob<C>
     ensures number { result.number ≡ job.number }
     ensures kind { result.kind ≡ kind_of job.work }
     ensures same { stopped_box result.coder ≡ stopped_box job.coder }
-    ensures own { (at : Option ℕ) → IsOwnJob at job → IsAskedAt at result.coder }
+    ensures own { (out : Out) → IsOwnJob out job → IsBack out result.coder }
 {
     job.perform(alloc)
 }

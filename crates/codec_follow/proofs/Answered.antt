@@ -7,14 +7,14 @@ use Rattle.wc_config.specs.Configs.{coder_id_of}
 use Rattle.codec_definitions.specs.declared.unit.Unit as media
 use Rattle.codec_definitions.specs.declared.command.Command.{Command}
 use Rattle.codec_definitions.specs.Answers.{answer_after, answers, answers_from, last_answer}
-use Rattle.codec_model.specs.declared.entry.{CodecState.CodecState, Opening.Opening, Entry.Entry, Work.Work}
+use Rattle.codec_model.specs.declared.entry.{Call.Call, CodecState.CodecState, Opening.Opening, Entry.Entry, Work.Work}
 use Rattle.codec_model.specs.declared.entry.CodecState.TheVariants.{Configured}
 use Rattle.codec_model.specs.declared.entry.{WorkKind.WorkKind, Message.Message, Item.Item, Running.Running, Task.Task, Ended.Ended, Outcome.Outcome}
 use Rattle.codec_model.specs.Control.{Control, kind_of, after_message, process_queue, at_next_place, done_running}
 use Rattle.codec_model.specs.Facts.{is_configure}
-use Rattle.codec_model.specs.Replay.{State, Given, decoder_config, labelled_answer, given_more, answer_to, answers_to, opening_state, step, ended_of, ended_run, ended_refused, with_control}
+use Rattle.codec_model.specs.Replay.{State, Given, decoder_config, labelled_answer, given_more, answer_to, answers_to, opening_state, step, message_of, may_call, call_error, accepted, removed, ended_of, ended_run, ended_refused, with_control}
 use Rattle.history_laws.specs.Answers.{ran_answer}
-use Rattle.codec_model.specs.StepLaws.{begins, begun, task_ran, EachStep, by_queue, by_steps}
+use Rattle.codec_model.specs.StepLaws.{begins, begun, task_ran, EachStep, Sends, asked, call_sends, by_queue, by_removals, by_steps}
 
 -- ---- what a coder answers
 
@@ -109,13 +109,18 @@ processed c given busy h = by_queue (λ (d : Control). Parts (seen d) given busy
 needs_before : (ws : List Work) (w : Work) (phase new : CodecState) → (not (is_configure w) ≡ true → phase ≡ Configured) → needs (ws ++ w ∷ []) new ≡ true → needs ws phase ≡ true
 needs_before ws w phase new on h = grind (arith, on, h)
 
+-- a call that is not refused configures, or finds the codec configured
+sent_to : (x : Call) (w : Work) (c : Control) → message_of x ≡ Some w → may_call x c ≡ true → call_error x c ≡ None → not (is_configure w) ≡ true → c.phase ≡ Configured
+sent_to x w c m may e on = grind (arith, m, may, e, on)
+
 -- one message more, which configures or finds the codec configured
-sent : (c : Control) (m : Message) (new : CodecState) (place size : ℕ) (key : Bool) (pending : List ℕ) (given busy : Given) → (not (is_configure m.work) ≡ true → c.phase ≡ Configured) → Parts (seen c) given busy
-    → Parts (seen (process_queue (c.messages ++ m ∷ []) (record c { place = place; phase = new; key_required = key; size = size; pending = pending; messages = c.messages ++ m ∷ [] }))) given busy
-sent c m new place size key pending given busy on h = processed (record c { place = place; phase = new; key_required = key; size = size; pending = pending; messages = c.messages ++ m ∷ [] }) given busy (record {
-  flushed = h.flushed;
-  opens = λ need. h.opens (needs_before (works_on c.work c.messages) m.work c.phase new on (simp (map-append, ← append_assoc) at need));
-})
+sent_sound : (w : Work) (c d : Control) (given busy : Given) → Sends w c d → (not (is_configure w) ≡ true → c.phase ≡ Configured) → Parts (seen c) given busy → Parts (seen d) given busy
+sent_sound w c d given busy k on h =
+    let before = asked c k.phase k.key_required k.size k.pending in
+    rw k.is (processed (record before { messages = before.messages ++ record { place = c.place; work = w } ∷ [] }) given busy (record {
+      flushed = h.flushed;
+      opens = λ need. h.opens (needs_before (works_on c.work c.messages) w c.phase k.phase on (simp (map-append, ← append_assoc) at need));
+    }))
 
 -- ---- starts and ends
 
@@ -141,12 +146,10 @@ task_sound x ts s h =
 
 each_sound : EachStep (λ e s t. Sound s → Sound t)
 each_sound = record {
-  call = λ who x s h. grind (arith, sent, h);
-  gone = λ who s h. h;
-  kept = λ who s off h. h;
-  cloned = λ who x s on h. grind (arith, sent, on, h);
-  remove = λ who r s h. grind (arith, h);
-  take = λ who unit s may h. h;
+  refused = λ who x error s may e h. h;
+  sent = λ who x w s m may e h. sent_sound w s.control _ s.given s.running_given (call_sends x w s.control m) (sent_to x w s.control m may e) h;
+  removes_all = λ who x s is e h. by_removals (λ y. Sound (removed (accepted y s.control) s)) (grind (arith, h)) (grind (arith, h)) x is;
+  takes = λ who unit s may h. h;
   start = λ i is epoch item s first may h. started_sound i is epoch item s first may h;
   done = λ r e epoch item moment o s running own is h. done_sound r e o moment s running is h;
   turn = λ x ts s first h. task_sound x ts s h;

@@ -5,18 +5,18 @@ use Rattle.std.proofs.lemmas.List.Sums.{length-filter}
 use Rattle.std.proofs.lemmas.List.{append-nil, map-append, length-map, length-replicate}
 use Rattle.std.proofs.lemmas.Option.{option_and_then_some}
 use Rattle.std.proofs.Math.Seq.{take-append_seam}
-use Rattle.wc_base.specs.{declared.error.DomError.DomError}
+use Rattle.wc_base.specs.{declared.who.Who.Who}
 use Rattle.wc_config.specs.{declared.config.AudioDecoderConfig.AudioDecoderConfig, declared.kind.Kind.Kind}
 use Rattle.codec_definitions.specs.declared.unit.Unit as media
-use Rattle.codec_model.specs.declared.entry.{Call.Call, Entry.Entry, Work.Work, WorkKind.WorkKind}
+use Rattle.codec_model.specs.declared.entry.{Call.Call, Entry.Entry, Handed.Handed, Work.Work, WorkKind.WorkKind}
 use Rattle.codec_model.specs.declared.entry.{Event.Event, Message.Message, Running.Running, Shown.Shown, Task.Task, Ended.Ended, Outcome.Outcome}
-use Rattle.codec_model.specs.Control.{Control, is_dequeue, is_desaturate, with_desaturate, is_taken, after_message, process_queue, at_next_place, run_task, done_running, after_reset, after_close, carried, active_after}
-use Rattle.codec_model.specs.Replay.{State, Given, opening_state, replay, replay_from, step, ended_of, accepted, after_call, with_control}
+use Rattle.codec_model.specs.Control.{Control, is_dequeue, is_desaturate, with_desaturate, is_taken, after_message, process_queue, at_next_place, run_task, done_running, after_reset, after_close, after_take, carried, active_after}
+use Rattle.codec_model.specs.Replay.{State, Given, opening_state, replay, replay_from, step, ended_of, accepted, call_error, called, may_call, with_control, removed}
 use Rattle.codec_model.specs.Shown.{shows, outputs_from, turn_shows, shown_from, shown_at, each_shown_from, word_at, units_in, units_shown, outputs_of}
 use Rattle.codec_follow.specs.Follow.{blanks, ended_as, follow_step, follow_from, filled, filled_at, each_filled_from, each_filled}
 use Rattle.codec_follow.specs.Laws.{LegalFollows, LegalFills, UnitsInOrder}
 use Rattle.history_laws.specs.CountLaws.{length-carried, outputs_tagged}
-use Rattle.codec_model.specs.StepLaws.{task_ran, EachStep, by_calls, by_steps}
+use Rattle.codec_model.specs.StepLaws.{task_ran, EachStep, by_removals, by_steps, senders_stay}
 use Rattle.codec_follow.proofs.Answered.{some_is, IsAnswered, Sound, step_sound, opened}
 
 abbrev erased_task : Task → Task
@@ -64,16 +64,30 @@ process_erased (m ∷ ms) c =
     rw (taken_erased m.work m.place ms c, process_erased ms (record (after_message m c) { messages = ms }))
     (either_way erased (is_taken m c) (process_queue ms (record (after_message m c) { messages = ms })) c)
 
-call_erased : (o : Option DomError) (x : Call) (c : Control) → after_call o x (erased c) ≡ erased (after_call o x c)
-call_erased None x c =
-    by_calls (λ (y : Call). accepted y (erased c) ≡ erased (accepted y c)) (λ config. process_erased (c.messages ++ _ ∷ []) _) (λ chunk. process_erased (c.messages ++ _ ∷ []) _) (process_erased (c.messages ++ _ ∷ []) _) x
-call_erased (Some e) x c = refl
-
 reset_erased : (c : Control) → after_reset (erased c) ≡ erased (after_reset c)
 reset_erased c = grind (arith, pushed, found_erased is_dequeue)
 
 close_erased : (c : Control) → after_close (erased c) ≡ erased (after_close c)
 close_erased c = grind (arith, reset_erased)
+
+-- what decides over a call reads no output
+may_erased : (x : Call) (c : Control) → may_call x (erased c) ≡ may_call x c
+may_erased x c = grind arith
+
+error_erased : (x : Call) (c : Control) → call_error x (erased c) ≡ call_error x c
+error_erased x c = grind arith
+
+accepted_erased : (x : Call) (c : Control) → accepted x (erased c) ≡ erased (accepted x c)
+accepted_erased (Call.Configure config) c = process_erased (c.messages ++ _ ∷ []) _
+accepted_erased (Call.Decode chunk) c = process_erased (c.messages ++ _ ∷ []) _
+accepted_erased (Call.Encode (Handed.Cloned sound)) c = process_erased (c.messages ++ _ ∷ []) _
+accepted_erased Call.Flush c = process_erased (c.messages ++ _ ∷ []) _
+accepted_erased Call.Reset c = reset_erased (at_next_place c)
+accepted_erased Call.Close c = close_erased (at_next_place c)
+accepted_erased x c = refl
+
+called_erased : (who : Who) (x : Call) (s : State) (t : State) → may_call x s.control ≡ true → called (call_error x s.control) x (erased_state s) ≡ erased_state t → follow_step (Entry.Call who x) (erased_state s) ≡ Some (erased_state t)
+called_erased who x s t may is = rw (may_erased x s.control, may, error_erased x s.control, is) refl
 
 -- ---- turns
 
@@ -102,12 +116,10 @@ ends_erased k g o e answered h = grind (arith, answered, h)
 
 each_erased : EachStep (λ e s t. Sound s → follow_step e (erased_state s) ≡ Some (erased_state t))
 each_erased = record {
-  call = λ who x s fine. grind (arith, call_erased);
-  gone = λ who s fine. refl;
-  kept = λ who s off fine. rw off refl;
-  cloned = λ who x s on fine. rw on (ap (λ (d : Control). Some (with_control d s)) (process_erased (s.control.messages ++ _ ∷ []) _));
-  remove = λ who r s fine. grind (arith, reset_erased, close_erased);
-  take = λ who unit s may fine. rw may refl;
+  refused = λ who x error s may e fine. called_erased who x s (with_control (at_next_place s.control) s) may (rw e refl);
+  sent = λ who x w s m may e fine. called_erased who x s (with_control (accepted x s.control) s) may (rw (e, senders_stay x w m, accepted_erased x s.control) refl);
+  removes_all = λ who x s is e fine. called_erased who x s (removed (accepted x s.control) s) (by_removals (λ y. may_call y s.control ≡ true) refl refl x is) (rw (e, is, accepted_erased x s.control) refl);
+  takes = λ who unit s may fine. called_erased who (Call.Take unit) s (with_control (after_take (at_next_place s.control)) s) may refl;
   start = λ i is epoch item s first may fine. grind (arith, first, may);
   done = λ r e epoch item moment o s running own is fine. grind (arith, done_erased r e moment (at_next_place s.control), running, own, ends_erased, is, fine.flushed);
   turn = λ x ts s first fine. turn_erased x ts s first;

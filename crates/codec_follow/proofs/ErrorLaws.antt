@@ -1,16 +1,16 @@
 -- Where each item is served, the codec closes only for want of memory.
-use Rattle.std.proofs.Common.{ℕ, ◌≡◌, ◌+◌, List, [], ◌∷◌, filter, map, Some, None, IfSome, refl, ◌∙◌, arith}
+use Rattle.std.proofs.Common.{ℕ, ◌≡◌, ◌+◌, List, [], ◌∷◌, ◌++◌, filter, map, Some, None, IfSome, refl, ◌∙◌, arith}
 use Rattle.std.proofs.lemmas.List.Sums.{sum_by-cons, sum_by_push}
 use Rattle.std.specs.Prelude.{option_map, unwrap_or, sum_by}
 use Rattle.std.specs.List.{AllByRecursion}
 use Rattle.wc_base.specs.{declared.error.DomError.DomError}
 use Rattle.codec_definitions.specs.declared.unit.Unit as media
 use Rattle.codec_model.specs.declared.entry.{Opening.Opening, Entry.Entry, Event.Event}
-use Rattle.codec_model.specs.declared.entry.{Message.Message, Task.Task}
+use Rattle.codec_model.specs.declared.entry.{Message.Message, Task.Task, Work.Work}
 use Rattle.codec_model.specs.Control.{Control, is_dequeue, process_queue}
-use Rattle.codec_model.specs.Replay.{State, opening_state, step, IsLegal}
+use Rattle.codec_model.specs.Replay.{State, opening_state, step, accepted, IsLegal}
 use Rattle.codec_model.specs.Shown.{shows, shown_from, shown, rejections, outputs_from}
-use Rattle.codec_model.specs.StepLaws.{EachStep, by_queue, by_steps}
+use Rattle.codec_model.specs.StepLaws.{EachStep, Sends, asked, call_sends, by_queue, by_removals, by_steps}
 use Rattle.history_laws.specs.OutputLaws.{all_append}
 use Rattle.codec_follow.specs.Errors.{IsServed, AreServedFrom, AreServed, IsForMemory}
 
@@ -38,14 +38,15 @@ dequeues_fine [] = refl
 dequeues_fine (Task.Dequeue ∷ ts) = sum_by-cons other Task.Dequeue (filter is_dequeue ts) ∙ omega (arith, dequeues_fine ts)
 dequeues_fine (t ∷ ts) = dequeues_fine ts
 
+sent_fine : (w : Work) (c d : Control) → Sends w c d → AllFine c.tasks → AllFine d.tasks
+sent_fine w c d k fine = let before = asked c k.phase k.key_required k.size k.pending in rw k.is (process_fine (c.messages ++ record { place = c.place; work = w } ∷ []) (record before { messages = before.messages ++ record { place = c.place; work = w } ∷ [] }) refl fine)
+
 each_fine : EachStep (λ e s t. IsServed e s → AllFine s.control.tasks → AllFine t.control.tasks)
 each_fine = record {
-  call = λ who x s served fine. grind (arith, process_fine, fine);
-  gone = λ who s served fine. fine;
-  kept = λ who s off served fine. fine;
-  cloned = λ who x s on served fine. grind (arith, process_fine, fine);
-  remove = λ who r s served fine. grind (arith, sum_by_push, dequeues_fine s.control.tasks, fine);
-  take = λ who unit s may served fine. fine;
+  refused = λ who x error s may e served fine. fine;
+  sent = λ who x w s m may e served fine. sent_fine w s.control _ (call_sends x w s.control m) fine;
+  removes_all = λ who x s is e served fine. by_removals (λ y. AllFine (accepted y s.control).tasks) (grind (arith, sum_by_push, dequeues_fine s.control.tasks)) (grind (arith, sum_by_push, dequeues_fine s.control.tasks)) x is;
+  takes = λ who unit s may served fine. fine;
   start = λ i is epoch item s first may served fine. fine;
   -- an item that was served ran, or memory was wanted
   done = λ r e epoch item moment o s running own is served fine. grind (arith, sum_by_push, running, served, is, fine);

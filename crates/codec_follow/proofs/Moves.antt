@@ -1,15 +1,21 @@
 -- What calls and starts do to a follower.
-use Rattle.std.proofs.Common.{ℕ, ◌≡◌, [], Option, Some, None, arith}
-use Rattle.wc_base.specs.{declared.who.Who.Who}
+use Rattle.std.proofs.Common.{ℕ, ◌≡◌, true, [], Option, Some, None, arith}
+use Rattle.wc_base.specs.declared.{error.DomError.DomError, who.Who.Who}
 use Rattle.codec_model.specs.declared.entry.{Call.Call, Entry.Entry, Item.Item, Shown.Shown, Work.Work}
 use Rattle.codec_model.specs.Control.{Control, start_item, after_start}
-use Rattle.codec_model.specs.Replay.{State, Given, given_more, after_call, call_error, entry_of, start_step}
+use Rattle.codec_model.specs.Replay.{State, Given, given_more, may_call, called, after_call, call_error, start_step}
 use Rattle.codec_model.specs.{StepLaws.begun, Shown.call_shows}
 use Rattle.codec_follow.specs.{declared.known.Known.Known, Follow.known_of}
-use Rattle.codec_follow.specs.Followed.{FollowerValue, Follows, known_with}
+use Rattle.codec_follow.specs.Followed.{FollowerValue, Follows, known_with, known_after}
 
-pub call_follows : (who : Who) (x : Call) (v : FollowerValue) (shown : Option Shown) (new : Control) → shown ≡ Some (record { turn = None; events = call_shows x v.control.place (call_error x v.control) }) → new ≡ after_call (call_error x v.control) x v.control → Follows (entry_of who x) v shown (record v { control = new })
-call_follows who x v shown new told moved = record { answer = λ s is. grind (arith, told, is); after = λ s is. grind (arith, moved, is) }
+known_past : (o : Option DomError) (x : Call) (s : State) → known_of (called o x s).given.config ≡ known_after o x (known_of s.given.config)
+known_past o x s = grind arith
+
+pub call_follows : (who : Who) (x y : Call) (v : FollowerValue) (shown : Option Shown) (new : Control) (known : Known) → y ≡ x → may_call x v.control ≡ true → shown ≡ Some (record { turn = None; events = call_shows y v.control.place v.control.pending (call_error y v.control) }) → new ≡ after_call (call_error y v.control) y v.control → known ≡ known_after (call_error x v.control) x v.known → Follows (Entry.Call who x) v shown (record v { control = new; known = known })
+call_follows who x y v shown new known copied may told moved more = record {
+  answer = λ s is. grind (arith, copied, may, told, is);
+  after = λ s is. grind (arith, known_past, copied, may, moved, more, is);
+}
 
 known_more : (w : Work) (g : Given) → known_of (given_more w g).config ≡ known_with w (known_of g.config)
 known_more w g = grind arith

@@ -11,7 +11,7 @@ use Rattle.codec_definitions.specs.declared.unit.Unit as media
 use Rattle.codec_definitions.specs.declared.unit.Unit.TheVariants as unit
 use Rattle.codec_definitions.specs.{Flac.described, FlacCode.stream_description}
 use Rattle.coder_api.specs.Meaning.{description_for}
-use Rattle.codec_model.specs.{declared.entry.Handed.Handed, declared.entry.Entry.Entry, declared.entry.Shown.Shown, Replay.decoder_config}
+use Rattle.codec_model.specs.{declared.entry.Handed.Handed, declared.entry.Call.Call, declared.entry.Entry.Entry, declared.entry.Shown.Shown, Replay.decoder_config}
 use Rattle.codec_model.specs.Shown.{units_in, each_shown, units_shown}
 use Rattle.history_laws.specs.UnitLaws.{decoded_sound, coded_chunk, picture_given, EachAnswer, by_answers}
 use Rattle.history_laws.specs.{BlockLaws.answers_blocks, BlockLaws.blocks_where, OutputLaws.all_append, OutputLaws.outputs_are}
@@ -86,8 +86,8 @@ judge_of k = record {
 
 entries_own : (k : Kind) (es : List Entry) → AllByRecursion (ConfiguresAs k) es → AllByRecursion (HoldsOwn (judge_of k)) es
 entries_own k [] own = tt
-entries_own k (Entry.Configure who c ∷ es) own = (own_config k c own.0, entries_own k es own.1)
-entries_own k (Entry.Encode who (Handed.Cloned sound) ∷ es) own = (tt, entries_own k es own.1)
+entries_own k (Entry.Call who (Call.Configure c) ∷ es) own = (own_config k c own.0, entries_own k es own.1)
+entries_own k (Entry.Call who (Call.Encode (Handed.Cloned sound)) ∷ es) own = (tt, entries_own k es own.1)
 entries_own k (e ∷ es) own = (tt, entries_own k es own.1)
 
 units_own : (k : Kind) (xs : List Shown) → AllByRecursion (λ x. AllOf k (units_in x.events)) xs → AllOf k (units_shown xs)

@@ -1,11 +1,12 @@
 -- What a follower keeps of a state, and what an entry does to it.
-use Rattle.std.specs.Prelude.{◌≡◌, Option, Some, None, option_map, unwrap_or}
+use Rattle.std.specs.Prelude.{◌≡◌, Option, Some, None, option_map, unwrap_or, if◌then◌else◌}
 use Rattle.wc_base.specs.declared.error.DomError.{DomError}
 use Rattle.codec_model.specs.declared.entry.Work.{Work}
+use Rattle.codec_model.specs.declared.entry.Call.{Call}
 use Rattle.codec_model.specs.declared.entry.Entry.{Entry}
 use Rattle.codec_model.specs.declared.entry.Shown.{Shown}
 use Rattle.codec_model.specs.Control.{Control}
-use Rattle.codec_model.specs.Replay.{State, nothing_given, config_asked}
+use Rattle.codec_model.specs.Replay.{State, nothing_given, config_asked, removes}
 use Rattle.codec_model.specs.Shown.{shown_at}
 use Rattle.codec_follow.specs.declared.known.Known.{Known}
 use Rattle.codec_follow.specs.Follow.{known_of, follow_step}
@@ -42,7 +43,7 @@ known_with w before = unwrap_or (option_map known_of (config_asked w)) before
 abbrev pub nothing_known : Known
 nothing_known = known_of nothing_given.config
 
--- what is known after a removal, refused with this error or else made
-abbrev pub known_after : Option DomError → Known → Known
-known_after None before = nothing_known
-known_after (Some error) before = before
+-- what is known after a call, refused with this error or made: nothing of what it removed
+abbrev pub known_after : Option DomError → Call → Known → Known
+known_after None x before = if removes x then nothing_known else before
+known_after (Some error) x before = before

@@ -11,6 +11,7 @@ use Rattle.codec_definitions.specs.declared.unit.Unit as media
 use Rattle.codec_definitions.specs.declared.unit.Unit.TheVariants as unit
 use Rattle.wc_config.specs.declared.kind.Kind.{Kind}
 use Rattle.wc_config.specs.declared.kind.Kind.TheVariants as kind
+use Rattle.codec_model.specs.declared.entry.Call.TheVariants as call
 use Rattle.codec_model.specs.declared.entry.Entry.{Entry}
 use Rattle.codec_model.specs.declared.entry.Entry.TheVariants as entry
 
@@ -46,7 +47,7 @@ IsConfigOf k c = ⊥
 
 -- an entry that keeps a configure has such a config
 abbrev pub ConfiguresAs : Kind → Entry → Type 0
-ConfiguresAs k (entry.Configure who config) = IsConfigOf k config
+ConfiguresAs k (entry.Call who (call.Configure config)) = IsConfigOf k config
 ConfiguresAs k e = Unit {0}
 
 -- an output of this kind with nothing in it

@@ -5,7 +5,7 @@ ghost use Rattle.codec_follow.specs.Followed.{known_with, known_after, nothing_k
 
 use crate::known::Known;
 use bytes::Bytes;
-use codec_model::{Ended, Outcome, Work, WorkKind};
+use codec_model::{Call, Ended, Outcome, Work, WorkKind};
 use coder_api::Unit;
 use std::alloc::Global;
 use wc_base::{DomError, List, NoMemory, try_push};
@@ -97,12 +97,13 @@ pub(crate) fn known_after_item(work: &Work, before: Known) -> Known
     }
 }
 
-/// What is known after a removal, refused with this error or else made.
-pub(crate) fn known_after_removal(error: Option<DomError>, before: Known) -> Known
-    ensures { result ≡ known_after error before }
+/// What is known after a call, refused with this error or else made: nothing after a reset or close that was made.
+pub(crate) fn known_after_call(call: &Call, error: Option<DomError>, before: Known) -> Known
+    ensures { result ≡ known_after error call.now before }
 {
-    match error {
-        None => nothing_known(),
-        Some(_) => before,
+    if call.removes() && error.is_none() {
+        nothing_known()
+    } else {
+        before
     }
 }

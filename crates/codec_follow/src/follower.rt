@@ -2,16 +2,13 @@
 ghost use Rattle.std.specs.Prelude.{◌≡◌, ◌<◌, ◌+◌, ◌^◌, IfOk, IfNone, Some};
 ghost use Rattle.wc_base.specs.declared.who.Who.{Who};
 ghost use Rattle.codec_model.specs.declared.entry.Entry.TheVariants as entry;
-ghost use Rattle.codec_model.specs.declared.entry.Handed.TheVariants as handed;
-ghost use Rattle.codec_model.specs.Replay.{entry_of, refused_as, removal_entry, opening_state};
+ghost use Rattle.codec_model.specs.Replay.{opening_state};
 ghost use Rattle.codec_model.specs.Shown.{shown_of};
 ghost use Rattle.codec_follow.specs.Followed.{follower_of, Follows};
 
-use crate::ends::{ended_as, known_after_item, known_after_removal, nothing_known};
+use crate::ends::{ended_as, known_after_call, known_after_item, nothing_known};
 use crate::known::Known;
-use codec_model::{
-    Answer, Call, Entry, Handed, HeldSound, Opening, Outcome, Removal, Showing, Shown,
-};
+use codec_model::{Answer, Call, Entry, Opening, Outcome, Showing, Shown};
 use codec_queues::Machine;
 use std::alloc::Global;
 use std::marker::Model;
@@ -62,13 +59,7 @@ impl Follower {
             return Err(NoMemory);
         }
         match entry {
-            Entry::Configure { who: _, config } => self.call(Call::Configure(config.copy()?)),
-            Entry::Decode { who: _, chunk } => self.call(Call::Decode(chunk.copy()?)),
-            Entry::Encode { who: _, handed } => self.encode(handed),
-            Entry::Flush { who: _ } => self.call(Call::Flush),
-            Entry::Reset { who: _ } => self.remove(Removal::Reset),
-            Entry::Close { who: _ } => self.remove(Removal::Close),
-            Entry::Take { who: _, unit } => self.take(*unit),
+            Entry::Call { who: _, call } => self.call(call),
             Entry::Start { epoch, item } => self.start(*epoch, *item),
             Entry::Done {
                 epoch,
@@ -81,85 +72,21 @@ impl Follower {
         }
     }
 
-    // A configure, decode or flush, refused or made.
-    fn call(&mut self, call: Call) -> Result<Option<Shown>, NoMemory>
+    // A call, refused or made, where it can be made.
+    fn call(&mut self, call: &Call) -> Result<Option<Shown>, NoMemory>
         requires { self.old.control.place + 1 < 2 ^ 64 }
         ensures follows { IfOk result
-            (λ shown. (who : Who) → Follows (entry_of who call) self.old shown self.new) }
+            (λ shown. (who : Who) → Follows (entry.Call who call.now) self.old shown self.new) }
         ensures same { IfOk result (λ shown. IfNone shown (self.new ≡ self.old)) }
     {
-        let answer = self.machine.call(call)?;
+        if !self.machine.may_call(call) {
+            return Ok(None);
+        }
+        let error = self.machine.error_of(call);
+        let answer = self.machine.call(call.copy()?)?;
+        self.known = known_after_call(call, error, self.known);
         let shown = answer.showing.into_shown(self.alloc)?;
         Ok(Some(shown))
-    }
-
-    // An encode. What became of its data tells whether it was refused.
-    fn encode(&mut self, handed: &Handed) -> Result<Option<Shown>, NoMemory>
-        requires { self.old.control.place + 1 < 2 ^ 64 }
-        ensures follows { IfOk result
-            (λ shown. (who : Who) → Follows (entry.Encode who handed.now) self.old shown self.new) }
-        ensures same { IfOk result (λ shown. IfNone shown (self.new ≡ self.old)) }
-    {
-        match handed {
-            Handed::Gone => self.refuse_encode(true),
-            Handed::Kept => self.refuse_encode(false),
-            Handed::Cloned(sound) => self.encode_clone(sound.copy()?),
-        }
-    }
-
-    // An encode that was refused, of detached data or not.
-    fn refuse_encode(&mut self, detached: bool) -> Result<Option<Shown>, NoMemory>
-        requires { self.old.control.place + 1 < 2 ^ 64 }
-        ensures follows { IfOk result (λ shown. (who : Who)
-            → Follows (entry.Encode who (refused_as detached)) self.old shown self.new) }
-        ensures same { IfOk result (λ shown. IfNone shown (self.new ≡ self.old)) }
-    {
-        let Some(answer) = self.machine.refuse_encode(detached) else {
-            return Ok(None);
-        };
-        self.show(answer)
-    }
-
-    // An encode of which the codec made a clone.
-    fn encode_clone(&mut self, sound: HeldSound) -> Result<Option<Shown>, NoMemory>
-        requires { self.old.control.place + 1 < 2 ^ 64 }
-        ensures follows { IfOk result (λ shown. (who : Who)
-            → Follows (entry.Encode who (handed.Cloned sound)) self.old shown self.new) }
-        ensures same { IfOk result (λ shown. IfNone shown (self.new ≡ self.old)) }
-    {
-        if self.machine.encode_error(false).is_some() {
-            return Ok(None);
-        }
-        let answer = self.machine.encode(sound)?;
-        self.show(answer)
-    }
-
-    // A take of the output with this number.
-    fn take(&mut self, unit: u64) -> Result<Option<Shown>, NoMemory>
-        requires { self.old.control.place + 1 < 2 ^ 64 }
-        ensures follows { IfOk result
-            (λ shown. (who : Who) → Follows (entry.Take who unit) self.old shown self.new) }
-        ensures same { IfOk result (λ shown. IfNone shown (self.new ≡ self.old)) }
-    {
-        if unit != self.machine.taken() {
-            return Ok(None);
-        }
-        let Some(_) = self.machine.take() else {
-            return Ok(None);
-        };
-        Ok(Some(Showing::Nothing.into_shown(self.alloc)?))
-    }
-
-    // A reset or close, refused or made.
-    fn remove(&mut self, removal: Removal) -> Result<Option<Shown>, NoMemory>
-        requires { self.old.control.place + 1 < 2 ^ 64 }
-        ensures follows { IfOk result
-            (λ shown. (who : Who) → Follows (removal_entry who removal) self.old shown self.new) }
-        ensures same { IfOk result (λ shown. IfNone shown (self.new ≡ self.old)) }
-    {
-        let answer = self.machine.remove(removal);
-        self.known = known_after_removal(answer.exception, self.known);
-        self.show(answer)
     }
 
     // A start of the item with this number, in this epoch.

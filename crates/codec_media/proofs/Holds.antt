@@ -5,13 +5,12 @@ use Rattle.std.proofs.lemmas.Bool.{and_parts}
 use Rattle.std.proofs.lemmas.List.{map_push}
 use Rattle.wc_base.specs.declared.who.Who.{Who}
 use Rattle.wc_pool.specs.declared.reference.MediaRef.{MediaRef}
-use Rattle.codec_model.specs.declared.entry.{Pair.Pair, Call.Call, Task.Task, Work.Work, Item.Item}
+use Rattle.codec_model.specs.declared.entry.{Pair.Pair, Handed.Handed, Call.Call, Task.Task, Work.Work, Item.Item}
 use Rattle.coder_api.specs.Lent.{Lent}
-use Rattle.codec_model.specs.{declared.entry.Running.Running, declared.entry.Entry.Entry, Replay.State, Replay.entry_of, Held.HeldMoves, StepLaws.by_call}
+use Rattle.codec_model.specs.{declared.entry.Running.Running, declared.entry.Entry.Entry, Replay.State, Replay.sends, Held.HeldMoves}
 use Rattle.codec_model.specs.Control.{held_of, front, may_start, start_item, turn_closes}
-use Rattle.codec_model.specs.Held.{in_order, held_by, items_held, messages_held, running_pairs, waiting_held, front_held, behind_held, waiting_after, running_after, closes_codec}
-use Rattle.codec_core.specs.{declared.reply.Reply.Reply, declared.reply.CallFault.CallFault}
-use Rattle.codec_core.specs.Codec.{Codec, state_at, Makes, Replied, FaultIs, item_parts, closes_now, removed_if, RemovedValue}
+use Rattle.codec_model.specs.Held.{in_order, held_by, items_held, messages_held, running_pairs, waiting_held, front_held, behind_held, waiting_after, running_after, closes_codec, adds_held, lets_go, is_removal}
+use Rattle.codec_core.specs.Codec.{Codec, state_at, Makes, item_parts, closes_now, removed_if, RemovedValue}
 use Rattle.codec_media.specs.Holding.{pair_of, IsHolding, TakesIf, without_media}
 use Rattle.codec_media.specs.Holding as holding
 
@@ -21,23 +20,36 @@ holds_after held_moves old new e working waiting m r w =
     let moves = held_moves e (state_at old) (state_at new) m.steps in
     record { runs = r ∙ sym moves.runs; waits = w ∙ sym moves.waits }
 
--- a call leaves what waits and what runs
-call_keeps : (who : Who) (x : Call) (s : State) → (running_after (entry_of who x) s ≡ running_pairs s) × (waiting_after (entry_of who x) s ≡ waiting_held s.control ++ [])
-call_keeps who x s = by_call (λ e. (running_after e s ≡ running_pairs s) × (waiting_after e s ≡ waiting_held s.control ++ [])) who (λ config. (refl, refl)) (λ chunk. (refl, refl)) (refl, refl) x
+-- a call leaves what runs, lets go what waits where it removes, and adds what it brings
+pub call_holds : HeldMoves → (old new : Codec) (who : Who) (x : Call) (removed : Bool) (working : Option MediaRef) (waiting after : List MediaRef) → Makes old new (Entry.Call who x) → removed ≡ is_removal (Entry.Call who x) (state_at old) → adds_held (Entry.Call who x) ≡ [] → after ≡ cond removed [] waiting → IsHolding old working waiting → IsHolding new working after
+call_holds moves old new who x removed working waiting after m is none left h =
+    holds_after moves old new (Entry.Call who x) working after m h.runs (rw (left, none, append-nil, ← is) (by removed))
+  where
+    by : (b : Bool) → map pair_of (cond b [] waiting) ≡ cond b [] (waiting_held (state_at old).control)
+    by true = refl
+    by false = h.waits
 
-made_call : HeldMoves → (old new : Codec) (who : Who) (x : Call) (working : Option MediaRef) (waiting : List MediaRef) → Makes old new (entry_of who x) → IsHolding old working waiting → IsHolding new working waiting
-made_call moves old new who x working waiting m h =
-    let keeps = call_keeps who x (state_at old) in
-    holds_after moves old new (entry_of who x) working waiting m (rw keeps.0 h.runs) (rw (keeps.1, append-nil) h.waits)
+-- a call that adds a reference sends a message, and removes nothing
+pub adds_sends : (who : Who) (x : Call) (p : Pair) → adds_held (Entry.Call who x) ≡ p ∷ [] → sends x ≡ true
+adds_sends who (Call.Encode (Handed.Cloned sound)) p h = refl
+adds_sends who x p h = absurd cc
 
-pub call_holds : HeldMoves → (result : Result Reply CallFault) (old new : Codec) (who : Who) (x : Call) (working : Option MediaRef) (waiting : List MediaRef) → IfOk result (λ reply. Replied old new who x reply.place None) → IfErr result (FaultIs old new who x) → IsHolding old working waiting → IsHolding new working waiting
-call_holds moves (Ok reply) old new who x working waiting ok err h = made_call moves old new who x working waiting ok.made h
-call_holds moves (Err (CallFault.Dom error at)) old new who x working waiting ok err h = made_call moves old new who x working waiting err.made h
-call_holds moves (Err CallFault.NoMemory) old new who x working waiting ok err h = rw err h
+pub adds_stays : (who : Who) (x : Call) (p : Pair) (s : State) → adds_held (Entry.Call who x) ≡ p ∷ [] → is_removal (Entry.Call who x) s ≡ false
+adds_stays who (Call.Encode (Handed.Cloned sound)) p s h = refl
+adds_stays who x p s h = absurd cc
 
--- an entry that adds a reference behind those that wait, as an encode does
-pub more_holds : HeldMoves → (old new : Codec) (e : Entry) (r : MediaRef) (working : Option MediaRef) (waiting : List MediaRef) → Makes old new e → running_after e (state_at old) ≡ running_pairs (state_at old) → waiting_after e (state_at old) ≡ waiting_held (state_at old).control ++ pair_of r ∷ [] → IsHolding old working waiting → IsHolding new working (waiting ++ r ∷ [])
-more_holds moves old new e r working waiting m runs waits h = holds_after moves old new e working (waiting ++ r ∷ []) m (rw runs h.runs) (rw (waits, map_push, h.waits) refl)
+-- an encode adds its reference behind those that wait
+pub more_holds : HeldMoves → (old new : Codec) (who : Who) (x : Call) (r : MediaRef) (working : Option MediaRef) (waiting : List MediaRef) → Makes old new (Entry.Call who x) → adds_held (Entry.Call who x) ≡ pair_of r ∷ [] → IsHolding old working waiting → IsHolding new working (waiting ++ r ∷ [])
+more_holds moves old new who x r working waiting m adds h =
+    holds_after moves old new (Entry.Call who x) working (waiting ++ r ∷ []) m h.runs (rw (adds, adds_stays who x (pair_of r) (state_at old) adds, map_push, h.waits) refl)
+
+-- what a call lets go are the pairs of those that wait, where it removes
+pub gone_pairs : (old : Codec) (who : Who) (x : Call) (removed : Bool) (working : Option MediaRef) (waiting media : List MediaRef) → removed ≡ is_removal (Entry.Call who x) (state_at old) → media ≡ cond removed waiting [] → IsHolding old working waiting → map pair_of media ≡ lets_go (Entry.Call who x) (state_at old)
+gone_pairs old who x removed working waiting media is same h = rw (same, ← is) (by removed)
+  where
+    by : (b : Bool) → map pair_of (cond b waiting []) ≡ cond b (waiting_held (state_at old).control) []
+    by true = h.waits
+    by false = refl
 
 -- a start
 front_at : (b : Bool) (is : List Item) (n : ℕ) (w : Work) → option_map item_parts (cond b (front is) None) ≡ Some (n, w) → (b ≡ true) × (front_held is ≡ in_order (held_of w)) × (items_held is ≡ in_order (held_of w) ++ behind_held is)

@@ -1,9 +1,13 @@
 -- A codec with the references that it holds.
-use Rattle.std.specs.Prelude.{ℕ, ◌≡◌, List, [], ◌++◌, map, Option, Bool, true, false, drop, option_to_list}
+use Rattle.std.specs.Prelude.{ℕ, ◌≡◌, List, [], ◌++◌, map, Option, Bool, true, false, drop, option_to_list, if◌then◌else◌}
+use Rattle.wc_base.specs.declared.error.DomError.{DomError}
+use Rattle.wc_base.specs.declared.who.Who.{Who}
 use Rattle.wc_pool.specs.declared.reference.MediaRef.{MediaRef}
 use Rattle.coder_api.specs.Lent.{Lent}
 use Rattle.codec_model.specs.declared.entry.Pair.{Pair}
-use Rattle.codec_model.specs.Held.{in_order, running_pairs, waiting_held}
+use Rattle.codec_model.specs.declared.entry.Call.{Call}
+use Rattle.codec_model.specs.declared.entry.Entry.TheVariants as entry
+use Rattle.codec_model.specs.Held.{in_order, running_pairs, waiting_held, is_removal}
 use Rattle.codec_core.specs.Codec as core
 use Rattle.codec_core.specs.Codec.{Codec, state_at}
 
@@ -36,6 +40,25 @@ pub record LetsGo (old new : Holding) (media : List MediaRef) : Type 0 where
   pub pairs : map pair_of media ≡ waiting_held (state_at old.codec).control
   pub working : new.working ≡ old.working
   pub none : new.waiting ≡ []
+
+-- what a call lets go, and what it leaves of what waits
+abbrev pub media_gone : Who → Call → Holding → List MediaRef
+media_gone who x h = if is_removal (entry.Call who x) (state_at h.codec) then h.waiting else []
+
+abbrev pub media_left : Who → Call → Holding → List MediaRef
+media_left who x h = if is_removal (entry.Call who x) (state_at h.codec) then [] else h.waiting
+
+-- the answer to a call, with the references that were let go
+pub record ReplyValue : Type 0 where
+  pub place : ℕ
+  pub exception : Option DomError
+  pub promise : Option ℕ
+  pub media : List MediaRef
+  pub coder : Option Lent
+
+-- the codec's own part of it
+abbrev pub own_reply : ReplyValue → core.ReplyValue
+own_reply r = record { place = r.place; exception = r.exception; promise = r.promise; coder = r.coder }
 
 -- what a removal leaves for its caller: its entry's place, the references that were let go, and the box
 pub record RemovedValue : Type 0 where

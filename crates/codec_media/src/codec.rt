@@ -1,24 +1,23 @@
 // One codec with the references that it holds.
-ghost use Rattle.std.specs.Prelude.{◌≡◌, ◌==◌, ◌++◌, ◌∷◌, [], ◌≤◌, ◌+◌, max, IfOk, IfErr, IfNone, IfSome, OnSome, OnOk, OnErr, None, Some, length, map, option_map, not, is_some, slice_get, true, false};
+ghost use Rattle.std.specs.Prelude.{◌≡◌, ◌==◌, ◌++◌, ◌∷◌, [], ◌≤◌, ◌+◌, max, IfOk, IfErr, IfNone, IfSome, OnSome, OnOk, OnErr, None, Some, length, map, option_map, not, is_some, true, false};
 ghost use Rattle.codec_model.specs.declared.entry.Entry.TheVariants as entry;
-ghost use Rattle.codec_model.specs.Control.{start_item, may_take, may_reclaim};
-ghost use Rattle.codec_model.specs.Shown.{shown, promise_of, outputs_of};
-ghost use Rattle.codec_model.specs.Held.{in_order, running_pairs};
-ghost use Rattle.codec_model.specs.Replay.{encode_entry, encode_error, refused_encode, missing_coder, removal_error, removal_entry as the_removal_entry};
+ghost use Rattle.codec_model.specs.Control.{start_item, may_reclaim};
+ghost use Rattle.codec_model.specs.Held.{in_order, running_pairs, adds_held, lets_go};
+ghost use Rattle.codec_model.specs.Replay.{may_call, sends, encode_error, missing_coder};
 ghost use Rattle.codec_core.specs.Job.{IsJobOf, IsEndOf, outcome_of, missing_id, stopped_box};
-ghost use Rattle.codec_core.specs.Owning.{asked_of, IsOwnJob, GoesBack, KeepsAsked};
-ghost use Rattle.codec_core.specs.Codec.{state_at, Makes, IsAskedAt, KeepsRunning, Replied, FaultIs, kept_box, handed_back, closes_now, item_parts};
-ghost use Rattle.codec_media.specs.Holding.{pair_of, all_of, SameHeld, LetsGo};
+ghost use Rattle.codec_core.specs.Owning.{IsOwnJob, GoesBack};
+ghost use Rattle.codec_core.specs.Codec.{state_at, Makes, IsBack, KeepsRunning, Replied, kept_box, handed_back, closes_now, item_parts};
+ghost use Rattle.codec_media.specs.Holding.{pair_of, all_of, SameHeld, LetsGo, own_reply, media_gone, media_left};
 
-use crate::queue::{let_go, room_for, take_if, with_media};
-use crate::reply::{Ended, Removed, Turned};
-use codec_core::{CallFault, Core, DoneJob, Job, Reply, Taken};
-use codec_model::{Call, HeldSound, Kind, Pair, Removal, references_are_held};
+use crate::queue::{is_removed, let_go, let_go_if, room_for, take_if, with_media};
+use crate::reply::{Ended, Removed, Reply, Turned};
+use codec_core::{Core, DoneJob, Job};
+use codec_model::{Call, Kind, references_are_held};
 use coder_api::Coder;
 use std::alloc::Global;
 use std::collections::VecDeque;
 use std::marker::Model;
-use wc_base::{DomError, NoMemory, Samples, Who};
+use wc_base::{DomError, NoMemory, Who};
 use wc_pool::MediaRef;
 
 /// One codec, and the references that it holds: that of the running item, and those of the encodes that wait. A contract
@@ -100,22 +99,6 @@ impl<C: Coder> HoldingCore<C> {
         self.core.reserve(calls)
     }
 
-    /// A configure, decode or flush of a caller.
-    pub fn call(&mut self, who: Who, call: Call) -> Result<Reply, CallFault>
-        ensures ok { let old = self.old.codec in
-            IfOk result (λ reply. Replied old self.new.codec who call reply.place None) }
-        ensures promise { IfOk result (λ reply. reply.promise ≡ promise_of call reply.place) }
-        ensures err { IfErr result (FaultIs self.old.codec self.new.codec who call) }
-        ensures running { KeepsRunning (state_at self.old.codec) (state_at self.new.codec) }
-        ensures asked { KeepsAsked self.old.codec self.new.codec }
-        ensures slot { self.new.codec.slot ≡ self.old.codec.slot }
-        ensures spare { self.new.codec.spare ≡ self.old.codec.spare }
-        ensures held { SameHeld self.old self.new }
-    {
-        references_are_held();
-        self.core.call(who, call)
-    }
-
     /// The error with which an encode would be refused now: of detached data first.
     pub fn encode_refusal(&self, detached: bool) -> Option<DomError>
         ensures { result ≡ encode_error detached (state_at self.now.codec).control }
@@ -123,89 +106,105 @@ impl<C: Coder> HoldingCore<C> {
         self.core.encode_refusal(detached)
     }
 
-    /// An encode of a caller that is not refused (W3C WebCodecs, AudioEncoder, `encode`), of samples with the reference that
-    /// the codec holds from now on. After want of memory nothing has changed, and the reference comes back.
-    pub fn encode(&mut self, who: Who, samples: Samples, held: MediaRef) -> Result<u64, MediaRef>
-        requires { encode_error false (state_at self.old.codec).control ≡ None }
-        ensures made { OnOk result
-            (Makes self.old.codec self.new.codec
-            (encode_entry who (record { samples = samples; pair = pair_of held }))) }
-        ensures place { IfOk result (λ place. place ≡ length self.old.codec.history) }
+    /// A call of a caller, as `Core::call` makes it. With an encode that is not refused comes the reference that the codec
+    /// holds from now on, and with any other call none. A reset or close that is not refused lets go what waits. Memory is
+    /// wanted only of a call that sends a message; then nothing has changed, and the reference comes back.
+    pub fn call(
+        &mut self,
+        who: Who,
+        call: Call,
+        held: Option<MediaRef>,
+    ) -> Result<Reply<C>, Option<MediaRef>>
+        requires may { may_call call (state_at self.old.codec).control ≡ true }
+        requires spare { sends call ≡ false → 1 ≤ self.old.codec.spare }
+        requires held { map pair_of (in_order held) ≡ adds_held (entry.Call who call) }
+        ensures replied { let old = self.old.codec in
+            IfOk result (λ r. Replied old self.new.codec who call (own_reply r)) }
+        ensures lets { IfOk result (λ r. GoesBack self.new.codec r.place r.coder) }
         ensures running { KeepsRunning (state_at self.old.codec) (state_at self.new.codec) }
-        ensures asked { KeepsAsked self.old.codec self.new.codec }
-        ensures slot { self.new.codec.slot ≡ self.old.codec.slot }
-        ensures spare { self.new.codec.spare ≡ self.old.codec.spare }
+        ensures gone { IfOk result (λ r. r.media ≡ media_gone who call self.old) }
+        ensures pairs { let old = state_at self.old.codec in
+            IfOk result (λ r. map pair_of r.media ≡ lets_go (entry.Call who call) old) }
+        ensures waiting { OnOk result
+            (self.new.waiting ≡ media_left who call self.old ++ in_order held) }
+        ensures working { self.new.working ≡ self.old.working }
+        ensures cause { OnErr result (sends call ≡ true) }
+        ensures back { IfErr result (λ h. h ≡ held) }
+        ensures err { OnErr result (self.new ≡ self.old) }
+    {
+        match held {
+            Some(held) => match self.call_with(who, call, held) {
+                Ok(reply) => Ok(reply),
+                Err(held) => Err(Some(held)),
+            },
+            None => match self.call_alone(who, call) {
+                Ok(reply) => Ok(reply),
+                Err(NoMemory) => Err(None),
+            },
+        }
+    }
+
+    /// A call that brings no reference.
+    fn call_alone(&mut self, who: Who, call: Call) -> Result<Reply<C>, NoMemory>
+        requires may { may_call call (state_at self.old.codec).control ≡ true }
+        requires spare { sends call ≡ false → 1 ≤ self.old.codec.spare }
+        requires alone { adds_held (entry.Call who call) ≡ [] }
+        ensures replied { let old = self.old.codec in
+            IfOk result (λ r. Replied old self.new.codec who call (own_reply r)) }
+        ensures lets { IfOk result (λ r. GoesBack self.new.codec r.place r.coder) }
+        ensures running { KeepsRunning (state_at self.old.codec) (state_at self.new.codec) }
+        ensures gone { IfOk result (λ r. r.media ≡ media_gone who call self.old) }
+        ensures pairs { let old = state_at self.old.codec in
+            IfOk result (λ r. map pair_of r.media ≡ lets_go (entry.Call who call) old) }
+        ensures waiting { OnOk result (self.new.waiting ≡ media_left who call self.old) }
+        ensures working { self.new.working ≡ self.old.working }
+        ensures cause { OnErr result (sends call ≡ true) }
+        ensures err { OnErr result (self.new ≡ self.old) }
+    {
+        references_are_held();
+        let removes = call.removes();
+        let reply = self.core.call(who, call)?;
+        let removed = is_removed(removes, reply.exception);
+        let media = let_go_if(removed, self.alloc, &mut self.waiting, &mut self.freed);
+        Ok(Reply {
+            place: reply.place,
+            exception: reply.exception,
+            promise: reply.promise,
+            media,
+            coder: reply.coder,
+        })
+    }
+
+    /// An encode that is not refused, with the reference that the codec holds from now on.
+    fn call_with(&mut self, who: Who, call: Call, held: MediaRef) -> Result<Reply<C>, MediaRef>
+        requires may { may_call call (state_at self.old.codec).control ≡ true }
+        requires held { adds_held (entry.Call who call) ≡ pair_of held ∷ [] }
+        ensures replied { let old = self.old.codec in
+            IfOk result (λ r. Replied old self.new.codec who call (own_reply r)) }
+        ensures none { IfOk result (λ r. (r.media ≡ []) × (r.coder ≡ None)) }
+        ensures running { KeepsRunning (state_at self.old.codec) (state_at self.new.codec) }
         ensures waiting { OnOk result (self.new.waiting ≡ self.old.waiting ++ held ∷ []) }
         ensures working { self.new.working ≡ self.old.working }
-        ensures err { IfErr result (λ r. r ≡ held) }
-        ensures same { OnErr result (self.new ≡ self.old) }
+        ensures back { IfErr result (λ h. h ≡ held) }
+        ensures err { OnErr result (self.new ≡ self.old) }
     {
         references_are_held();
         match room_for(&mut self.waiting, &mut self.freed) {
             Err(NoMemory) => Err(held),
-            Ok(()) => {
-                let pair = Pair {
-                    resource: held.resource(),
-                    reference: held.number(),
-                };
-                match self.core.encode(who, HeldSound { samples, pair }) {
-                    Ok(place) => {
-                        self.waiting.push_back_reserved(held);
-                        Ok(place)
-                    }
-                    Err(NoMemory) => Err(held),
+            Ok(()) => match self.core.call(who, call) {
+                Err(NoMemory) => Err(held),
+                Ok(reply) => {
+                    self.waiting.push_back_reserved(held);
+                    Ok(Reply {
+                        place: reply.place,
+                        exception: reply.exception,
+                        promise: reply.promise,
+                        media: Vec::new(self.alloc),
+                        coder: reply.coder,
+                    })
                 }
-            }
+            },
         }
-    }
-
-    /// An encode of a caller that is refused, of data that is detached or is not: its exception, and its entry's place. After
-    /// want of memory nothing has changed.
-    pub fn refuse_encode(&mut self, who: Who, detached: bool) -> Result<(DomError, u64), NoMemory>
-        requires { is_some (encode_error detached (state_at self.old.codec).control) ≡ true }
-        ensures made { OnOk result
-            (Makes self.old.codec self.new.codec (refused_encode who detached)) }
-        ensures error { IfOk result
-            (λ a. encode_error detached (state_at self.old.codec).control ≡ Some a.0) }
-        ensures place { IfOk result (λ a. a.1 ≡ length self.old.codec.history) }
-        ensures err { OnErr result (self.new ≡ self.old) }
-        ensures running { KeepsRunning (state_at self.old.codec) (state_at self.new.codec) }
-        ensures asked { KeepsAsked self.old.codec self.new.codec }
-        ensures slot { self.new.codec.slot ≡ self.old.codec.slot }
-        ensures spare { self.new.codec.spare ≡ self.old.codec.spare }
-        ensures held { SameHeld self.old self.new }
-    {
-        references_are_held();
-        self.core.refuse_encode(who, detached)
-    }
-
-    /// A caller takes the first output that was shown and not taken yet. None exactly where there is none; then nothing has
-    /// changed, as after want of memory.
-    pub fn take(&mut self, who: Who) -> Result<Option<Taken>, NoMemory>
-        ensures may { let control = (state_at self.old.codec).control in
-            IfOk result (λ taken. is_some taken ≡ may_take control.taken control) }
-        ensures made { let old = self.old.codec in
-            IfOk result
-            (λ taken. IfSome taken (λ t. Makes old self.new.codec (entry.Take who t.number))) }
-        ensures place { IfOk result
-            (λ taken. IfSome taken (λ t. t.place ≡ length self.old.codec.history)) }
-        ensures number { IfOk result
-            (λ taken. IfSome taken (λ t. t.number ≡ (state_at self.old.codec).control.taken)) }
-        ensures unit { let old = self.old.codec in
-            IfOk result
-            (λ taken. IfSome taken
-            (λ t. slice_get (outputs_of (shown old.opening old.history)) t.number
-            ≡ Some t.unit)) }
-        ensures none { IfOk result (λ taken. IfNone taken (self.new ≡ self.old)) }
-        ensures err { OnErr result (self.new ≡ self.old) }
-        ensures running { KeepsRunning (state_at self.old.codec) (state_at self.new.codec) }
-        ensures asked { KeepsAsked self.old.codec self.new.codec }
-        ensures slot { self.new.codec.slot ≡ self.old.codec.slot }
-        ensures spare { self.new.codec.spare ≡ self.old.codec.spare }
-        ensures held { SameHeld self.old self.new }
-    {
-        references_are_held();
-        self.core.take(who)
     }
 
     /// The front item of the work queue becomes running, with its reference, and its job leaves with the box that the codec
@@ -226,7 +225,7 @@ impl<C: Coder> HoldingCore<C> {
         ensures lacks { IfSome result
             (λ job. missing_id job ≡ missing_coder (state_at self.old.codec).given job.work) }
         ensures slot { OnSome result (self.new.codec.slot ≡ None) }
-        ensures own { IfSome result (IsOwnJob (asked_of self.new.codec)) }
+        ensures own { IfSome result (IsOwnJob self.new.codec.out) }
         ensures lets { IfSome result
             (λ job. is_some (missing_id job) ≡ true → GoesBack self.new.codec job.place job.coder) }
         ensures spare { self.new.codec.spare ≡ self.old.codec.spare }
@@ -243,7 +242,7 @@ impl<C: Coder> HoldingCore<C> {
     /// The running item ends at a moment in microseconds, by the end of this codec's own job, and its reference is let go.
     pub fn done(&mut self, d: DoneJob<C>, moment: u64) -> Ended<C>
         requires end { IsEndOf (state_at self.old.codec) d }
-        requires own { IsAskedAt (asked_of self.old.codec) d.coder }
+        requires own { IsBack self.old.codec.out d.coder }
         ensures made { Makes self.old.codec self.new.codec
             (entry.Done d.epoch d.number moment (outcome_of d.ended)) }
         ensures idle { (state_at self.new.codec).control.running ≡ None }
@@ -270,35 +269,6 @@ impl<C: Coder> HoldingCore<C> {
         }
     }
 
-    /// A caller's reset or close: what waits is let go, in the order of its encodes. A closed codec refuses it.
-    pub fn remove(&mut self, who: Who, removal: Removal) -> Result<Removed<C>, (DomError, u64)>
-        requires { 1 ≤ self.old.codec.spare }
-        ensures made { Makes self.old.codec self.new.codec (the_removal_entry who removal) }
-        ensures ok { IfOk result (λ r. removal_error (state_at self.old.codec).control ≡ None) }
-        ensures place { IfOk result (λ r. r.place ≡ length self.old.codec.history) }
-        ensures coder { IfOk result (λ r. r.coder ≡ stopped_box self.old.codec.slot) }
-        ensures lets { IfOk result (λ r. GoesBack self.new.codec r.place r.coder) }
-        ensures err { IfErr result
-            (λ e. removal_error (state_at self.old.codec).control ≡ Some e.0) }
-        ensures refused { IfErr result (λ e. e.1 ≡ length self.old.codec.history) }
-        ensures slot { let refused = is_some (removal_error (state_at self.old.codec).control) in
-            self.new.codec.slot ≡ kept_box refused self.old.codec.slot }
-        ensures running { KeepsRunning (state_at self.old.codec) (state_at self.new.codec) }
-        ensures asked { KeepsAsked self.old.codec self.new.codec }
-        ensures spare { self.new.codec.spare + 1 ≡ self.old.codec.spare }
-        ensures gone { IfOk result (λ r. LetsGo self.old self.new r.media) }
-        ensures kept { OnErr result (SameHeld self.old self.new) }
-    {
-        references_are_held();
-        let removed = self.core.remove(who, removal)?;
-        let media = let_go(self.alloc, &mut self.waiting, &mut self.freed);
-        Ok(Removed {
-            place: removed.place,
-            media,
-            coder: removed.coder,
-        })
-    }
-
     /// The front event task runs; where it closes the codec, what waits is let go. None exactly where no task is queued.
     pub fn turn(&mut self) -> Option<Turned<C>>
         ensures none { IfNone result ((state_at self.old.codec).control.tasks ≡ []) }
@@ -315,7 +285,7 @@ impl<C: Coder> HoldingCore<C> {
         ensures slot { let stays = not (closes_now (state_at self.old.codec).control) in
             self.new.codec.slot ≡ kept_box stays self.old.codec.slot }
         ensures running { KeepsRunning (state_at self.old.codec) (state_at self.new.codec) }
-        ensures asked { KeepsAsked self.old.codec self.new.codec }
+        ensures out { self.new.codec.out ≡ self.old.codec.out }
         ensures spare { self.new.codec.spare ≡ self.old.codec.spare }
         ensures kept { IfSome result (λ t. IfNone t.removed (SameHeld self.old self.new)) }
         ensures gone { IfSome result
@@ -343,7 +313,7 @@ impl<C: Coder> HoldingCore<C> {
         ensures lets { IfSome result (λ r. GoesBack self.new.codec r.place r.coder) }
         ensures slot { OnSome result (self.new.codec.slot ≡ None) }
         ensures running { KeepsRunning (state_at self.old.codec) (state_at self.new.codec) }
-        ensures asked { KeepsAsked self.old.codec self.new.codec }
+        ensures out { self.new.codec.out ≡ self.old.codec.out }
         ensures spare { self.new.codec.spare ≡ self.old.codec.spare }
         ensures gone { IfSome result (λ r. LetsGo self.old self.new r.media) }
     {

@@ -7,4 +7,4 @@ mod queue;
 mod reply;
 
 pub use codec::HoldingCore;
-pub use reply::{Ended, Removed, Turned};
+pub use reply::{Ended, Removed, Reply, Turned};

@@ -1,5 +1,5 @@
 // The references that wait.
-ghost use Rattle.std.specs.Prelude.{◌≡◌, ◌≤◌, ◌<◌, ◌+◌, ◌++◌, [], OnOk, IfSome, is_some, option_map, if◌then◌else◌, vec_len, vec_capacity};
+ghost use Rattle.std.specs.Prelude.{◌&&◌, is_none, ◌≡◌, ◌≤◌, ◌<◌, ◌+◌, ◌++◌, [], OnOk, IfSome, is_some, option_map, if◌then◌else◌, vec_len, vec_capacity};
 ghost use Rattle.std.specs.VecDeque.{deque_len, deque_capacity};
 ghost use Rattle.codec_media.specs.Holding.{TakesIf, without_media};
 
@@ -8,7 +8,7 @@ use coder_api::Coder;
 use std::alloc::Global;
 use std::collections::VecDeque;
 use std::mem;
-use wc_base::NoMemory;
+use wc_base::{DomError, NoMemory};
 use wc_pool::MediaRef;
 
 /// Moves all references to the end of a list that has places for them, in order.
@@ -58,6 +58,36 @@ pub(crate) fn let_go(
 {
     move_all(waiting, freed);
     mem::replace(freed, Vec::new(alloc))
+}
+
+/// Whether a call that removes all that is queued did so: it was not refused.
+pub(crate) fn is_removed(removes: bool, exception: Option<DomError>) -> bool
+    ensures { result ≡ (removes && is_none exception) }
+{
+    removes && exception.is_none()
+}
+
+/// All references leave where they are let go, and else all stay.
+pub(crate) fn let_go_if(
+    removed: bool,
+    alloc: Global,
+    waiting: &mut VecDeque<MediaRef>,
+    freed: &mut Vec<MediaRef>,
+) -> Vec<MediaRef>
+    requires none { freed.old.items ≡ [] }
+    requires len { vec_len freed.old ≡ 0 }
+    requires places { deque_len waiting.old ≤ vec_capacity freed.old }
+    ensures items { result.items ≡ (if removed then waiting.old.items else []) }
+    ensures waiting { waiting.new.items ≡ (if removed then [] else waiting.old.items) }
+    ensures freed { freed.new.items ≡ [] }
+    ensures freed_len { vec_len freed.new ≡ 0 }
+    ensures places { deque_len waiting.new ≤ vec_capacity freed.new }
+{
+    if removed {
+        let_go(alloc, waiting, freed)
+    } else {
+        Vec::new(alloc)
+    }
 }
 
 /// Takes the front reference where it is wanted.

@@ -4,15 +4,15 @@ use Rattle.std.specs.Prelude.{option_and_then, unwrap_or, max, IfSome}
 use Rattle.std.proofs.lemmas.Bool.{not-true, and_parts, ne_eqb}
 use Rattle.std.proofs.lemmas.Bool.Decides.{nat_tests}
 use Rattle.std.proofs.lemmas.List.Sums.{sum_by-cons, sum_by_push}
-use Rattle.wc_base.specs.{Options.some_same, declared.error.DomError.DomError}
+use Rattle.wc_base.specs.Options.{some_same}
 use Rattle.codec_model.specs.declared.entry.{CodecState.TheVariants.Unconfigured, CodecState.TheVariants.Closed, Opening.Opening}
-use Rattle.codec_model.specs.declared.entry.{CodecState.CodecState, Removal.Removal, Call.Call, Entry.Entry, Coded.Coded, Work.Work}
+use Rattle.codec_model.specs.declared.entry.{CodecState.CodecState, Call.Call, Handed.Handed, Entry.Entry, Coded.Coded, Work.Work}
 use Rattle.std.proofs.lemmas.List.Filters.{sum_by-filter_both}
 use Rattle.codec_model.specs.declared.entry.{WorkKind.WorkKind, Message.Message, Item.Item, Running.Running, Task.Task, Ended.Ended}
 use Rattle.codec_model.specs.Control.{Control, is_coded, is_close, is_dequeue, is_desaturate, coded_running, coded_out, is_taken, after_message, takes_front, process_queue, at_next_place, run_task, done_running, after_end, after_reset, start_first}
-use Rattle.codec_model.specs.Replay.{State, opening_state, step, replay, replay_from, removal_error, after_call, call_error, remove_or_refuse}
+use Rattle.codec_model.specs.Replay.{State, opening_state, step, replay, replay_from, accepted, message_of}
 use Rattle.codec_model.specs.Facts.{bit, Always, configures_out, flush_parts, is_unblock, is_process, flushes, configures_now, flushes_now, IsNumbered, IsBefore, IsNeverStuck, EndsQuiet}
-use Rattle.codec_model.specs.StepLaws.{EachStep, begins_free, by_steps}
+use Rattle.codec_model.specs.StepLaws.{EachStep, begins_free, by_removals, by_steps}
 
 -- tests as numbers
 pub at_most_one : (b : Bool) → bit b ≤ 1
@@ -189,32 +189,29 @@ module _ (p : ℕ) where
   abbrev queued : Work → Control → List Message
   queued w c = c.messages ++ record { place = c.place; work = w } ∷ []
 
-  call_sound : (o : Option DomError) (x : Call) (c : Control) → IsSound c → IsSound (after_call o x c)
-  call_sound None (Call.Configure config) c h = process_sound (queued (Work.Configure config) c) _ refl (omega (counting, h.0), h.1)
-  call_sound None (Call.Decode chunk) c h = process_sound (queued (Work.Coded (Coded.Chunk chunk)) c) _ refl (omega (counting, h.0), h.1)
-  call_sound None Call.Flush c h = process_sound (queued Work.Flush c) _ refl (elim (same_or_apart c.place p) [ inl here ↦ omega (counting, h.0, here) | inr apart ↦ omega (counting, h.0, apart) ], h.1)
-  call_sound (Some error) x c h = entered_sound c h
+  sent_sound : (x : Call) (w : Work) (c : Control) → message_of x ≡ Some w → IsSound c → IsSound (accepted x c)
+  sent_sound (Call.Configure config) w c m h = process_sound (queued (Work.Configure config) c) _ refl (omega (counting, h.0), h.1)
+  sent_sound (Call.Decode chunk) w c m h = process_sound (queued (Work.Coded (Coded.Chunk chunk)) c) _ refl (omega (counting, h.0), h.1)
+  sent_sound (Call.Encode (Handed.Cloned sound)) w c m h = process_sound (queued (Work.Coded (Coded.Sound sound)) c) _ refl (omega (counting, h.0), h.1)
+  sent_sound Call.Flush w c m h = process_sound (queued Work.Flush c) _ refl (elim (same_or_apart c.place p) [ inl here ↦ omega (counting, h.0, here) | inr apart ↦ omega (counting, h.0, apart) ], h.1)
+  sent_sound x w c m h = absurd cc
 
-  remove_sound : (o : Option DomError) (r : Removal) (s : State) → IsSound s.control → IsSound (remove_or_refuse o r s).control
-  remove_sound None Removal.Reset s h = reset_sound Unconfigured (at_next_place s.control) h.0.positive h.0.dequeues h.1
-  remove_sound None Removal.Close s h = reset_sound Closed (at_next_place s.control) h.0.positive h.0.dequeues h.1
-  remove_sound (Some x) r s h = entered_sound s.control h
+  removed_sound : (phase : CodecState) (c : Control) → IsSound c → Sound 0 (record (after_reset (at_next_place c)) { phase = phase })
+  removed_sound phase c h = reset_sound phase (at_next_place c) h.0.positive h.0.dequeues h.1
 
   each_sound : EachStep (λ e s t. IsSound s.control → IsSound t.control)
   each_sound = record {
-    call = λ who x s h. call_sound (call_error x s.control) x s.control h;
-    gone = λ who s h. entered_sound s.control h;
-    kept = λ who s off h. entered_sound s.control h;
-    cloned = λ who x s on h. process_sound (queued (Work.Coded (Coded.Sound x)) s.control) _ refl (omega (counting, h.0), h.1);
-    remove = λ who r s h. remove_sound (removal_error s.control) r s h;
-    take = λ who unit s may h. (omega (counting, h.0), h.1);
+    refused = λ who x error s may e h. entered_sound s.control h;
+    sent = λ who x w s m may e h. sent_sound x w s.control m h;
+    removes_all = λ who x s is e h. by_removals (λ y. IsSound (accepted y s.control)) (removed_sound Unconfigured s.control h) (removed_sound Closed s.control h) x is;
+    takes = λ who unit s may h. (omega (counting, h.0), h.1);
     start = λ i is epoch item s first may h.
         let free = and_parts (is_none s.control.running) (not s.control.halted) (begins_free epoch item i s.control may) in
         let waiting = subst (λ (ws : List Item). IsSound (record s.control { work = ws })) first h in
         start_sound _ i.number i.place i.work is s.control (not-true _ free.1) (subst (λ (o : Option Running). IsSound (record s.control { work = i ∷ is; running = o })) (idle_of s.control.running (omega (arith, ap bit free.0))) waiting);
     done = λ r e epoch item moment x s running own is h. done_sound r e moment s.control (subst (λ (o : Option Running). IsSound (record s.control { running = o })) running h);
     turn = λ x ts s first h. task_sound x ts s.control (subst (λ (xs : List Task). IsSound (record s.control { tasks = xs })) first h);
-    reclaim = λ moment s may h. reset_sound Closed (at_next_place s.control) h.0.positive h.0.dequeues h.1;
+    reclaim = λ moment s may h. removed_sound Closed s.control h;
   }
 
   replay_sound : (es : List Entry) (s t : State) → replay_from es s ≡ Some t → IsSound s.control → IsSound t.control

@@ -1,12 +1,13 @@
 -- What a codec holds after one more entry.
 use Rattle.std.proofs.Common.{ℕ, ◌≡◌, ◌==◌, ◌&&◌, Bool, true, false, cond, not, List, [], ◌∷◌, ◌++◌, Option, Some, None, is_none, refl, ap, sym, ◌∙◌, append_assoc, append-nil}
-use Rattle.wc_base.specs.{declared.who.Who.Who, declared.error.DomError.DomError, Options.cond_is}
-use Rattle.codec_model.specs.declared.entry.{Pair.Pair, Removal.Removal, Call.Call, Work.Work}
+use Rattle.wc_base.specs.{declared.who.Who.Who, declared.error.DomError.DomError, Options.cond_is, Options.some_same}
+use Rattle.std.specs.Prelude.{unwrap_or}
+use Rattle.codec_model.specs.declared.entry.{Pair.Pair, Handed.Handed, Call.Call, Work.Work}
 use Rattle.codec_model.specs.declared.entry.{Message.Message, Item.Item, Running.Running, Task.Task, Ended.Ended, Entry.Entry}
 use Rattle.codec_model.specs.Control.{Control, held_of, is_close, process_queue, with_message, at_next_place, run_task, after_end, done_running}
-use Rattle.codec_model.specs.Replay.{State, step, removal_error, removal_step, remove_or_refuse, start_step, call_step, call_error, after_call, accepted, entry_of, removal_entry}
+use Rattle.codec_model.specs.Replay.{State, step, with_control, removed, removes, start_step, call_error, message_of, accepted}
 use Rattle.codec_model.specs.Held.{in_order, held_by, running_pairs, items_held, messages_held, waiting_held, held_in, closes_codec, is_removal, leaves_held, adds_held, HeldStays, behind_held, front_held, waiting_after, running_after, HeldApart, HeldMoves}
-use Rattle.codec_model.specs.StepLaws.{begins, begins_free, EachStep, by_call, by_removal, by_items, by_steps, Sends, asked, work_of, call_sends, encode_sends, calls_hold_none}
+use Rattle.codec_model.specs.StepLaws.{begins, begins_free, EachStep, by_removals, by_items, by_steps, Sends, asked, call_sends, senders_stay, refused_stays}
 
 items_more : (is : List Item) (i : Item) → items_held (is ++ i ∷ []) ≡ items_held is ++ in_order (held_of i.work)
 items_more [] i = append-nil (in_order (held_of i.work))
@@ -40,25 +41,41 @@ queued_held at w c =
 sent_held : (w : Work) (c d : Control) → Sends w c d → Adds (in_order (held_of w)) c d
 sent_held w c d k = rw k.is (queued_held c.place w (asked c k.phase k.key_required k.size k.pending))
 
-call_held : (o : Option DomError) (x : Call) (c : Control) → Adds [] c (after_call o x c)
-call_held None x c = rw calls_hold_none at (sent_held (work_of x) c (accepted x c) (call_sends x c))
-call_held (Some e) x c = (adds_nothing c, refl)
+-- a call that is refused adds no reference
+refused_adds : (who : Who) (x : Call) (error : DomError) (c : Control) → call_error x c ≡ Some error → adds_held (Entry.Call who x) ≡ []
+refused_adds who (Call.Encode (Handed.Cloned sound)) error c e = absurd cc
+refused_adds who x error c e = refl
 
-call_apart : (who : Who) (x : Call) (s : State) → HeldApart (entry_of who x) s (call_step x s)
-call_apart who x s =
-    let k = call_held (call_error x s.control) x s.control in
-    let runs = ap (λ (r : Option Running). held_by r s.running_held) k.1 in
-    by_call (λ e. HeldApart e s (call_step x s)) who (λ config. record { waits = k.0; runs = runs }) (λ chunk. record { waits = k.0; runs = runs }) (record { waits = k.0; runs = runs }) x
+-- a message holds what its call adds
+message_adds : (who : Who) (x : Call) (w : Work) → message_of x ≡ Some w → in_order (held_of w) ≡ adds_held (Entry.Call who x)
+message_adds who x w m = ap (λ (v : Work). in_order (held_of v)) (sym (some_same (unwrap_or (message_of x) w) w (is_there (message_of x) w m))) ∙ by x w m
+  where
+    is_there : (o : Option Work) (w : Work) → o ≡ Some w → Some (unwrap_or o w) ≡ Some w
+    is_there None w h = absurd cc
+    is_there (Some v) w h = h
 
-remove_held : (o : Option DomError) (r : Removal) (s : State) → (waiting_held (remove_or_refuse o r s).control ≡ cond (is_none o) [] (waiting_held s.control) ++ []) × (running_pairs (remove_or_refuse o r s) ≡ running_pairs s)
-remove_held None Removal.Reset s = (refl, refl)
-remove_held None r s = (refl, refl)
-remove_held (Some x) r s = (adds_nothing s.control, refl)
+    by : (x : Call) (w : Work) → message_of x ≡ Some w → in_order (held_of (unwrap_or (message_of x) w)) ≡ adds_held (Entry.Call who x)
+    by (Call.Encode (Handed.Cloned sound)) w m = refl
+    by (Call.Configure config) w m = refl
+    by (Call.Decode chunk) w m = refl
+    by Call.Flush w m = refl
+    by x w m = absurd cc
 
-remove_apart : (who : Who) (r : Removal) (s : State) → HeldApart (removal_entry who r) s (removal_step r s)
-remove_apart who r s =
-    let k = remove_held (removal_error s.control) r s in
-    by_removal (λ e. HeldApart e s (removal_step r s)) who (record { waits = k.0; runs = k.1 }) (record { waits = k.0; runs = k.1 }) r
+-- with what waits, where nothing is removed
+none_removed : (b : Bool) (more waiting : List Pair) → b ≡ false → more ≡ [] → waiting ≡ cond b [] waiting ++ more
+none_removed true more waiting b none = absurd cc
+none_removed false more waiting b none = rw none (sym (append-nil waiting))
+
+sent_apart : (who : Who) (x : Call) (w : Work) (s : State) → message_of x ≡ Some w → HeldApart (Entry.Call who x) s (with_control (accepted x s.control) s)
+sent_apart who x w s m =
+    let k = sent_held w s.control (accepted x s.control) (call_sends x w s.control m) in
+    record {
+      waits = rw (senders_stay x w m, ← message_adds who x w m) k.0;
+      runs = ap (λ (r : Option Running). held_by r s.running_held) k.1;
+    }
+
+removed_apart : (who : Who) (x : Call) (s : State) → removes x ≡ true → call_error x s.control ≡ None → HeldApart (Entry.Call who x) s (removed (accepted x s.control) s)
+removed_apart who x s is e = by_removals (λ y. call_error y s.control ≡ None → HeldApart (Entry.Call who y) s (removed (accepted y s.control) s)) (λ h. record { waits = rw h refl; runs = refl }) (λ h. record { waits = rw h refl; runs = refl }) x is e
 
 done_held : (r : Running) (e : Ended) (moment : ℕ) (held : Option Pair) (c : Control) → (waiting_held (done_running r e moment (at_next_place c)) ≡ waiting_held c) × (held_by (done_running r e moment (at_next_place c)).running held ≡ [])
 done_held r e moment held c = by (r.epoch == c.epoch) _
@@ -75,14 +92,13 @@ task_held x ts c = (adds_nothing c, refl)
 
 each_apart : EachStep HeldApart
 each_apart = record {
-  call = call_apart;
-  gone = λ who s. record { waits = adds_nothing s.control; runs = refl };
-  kept = λ who s off. record { waits = adds_nothing s.control; runs = refl };
-  cloned = λ who x s on.
-      let k = sent_held _ s.control _ (encode_sends x s.control) in
-      record { waits = k.0; runs = ap (λ (r : Option Running). held_by r s.running_held) k.1 };
-  remove = remove_apart;
-  take = λ who unit s may. record { waits = adds_nothing s.control; runs = refl };
+  refused = λ who x error s may e. record {
+    waits = none_removed _ (adds_held (Entry.Call who x)) (waiting_held s.control) (refused_stays who x error s e) (refused_adds who x error s.control e);
+    runs = refl;
+  };
+  sent = λ who x w s m may e. sent_apart who x w s m;
+  removes_all = λ who x s is e. removed_apart who x s is e;
+  takes = λ who unit s may. record { waits = adds_nothing s.control; runs = refl };
   start = λ i is epoch item s first may. record {
     waits = ap (λ (l : List Item). behind_held l ++ messages_held s.control.messages) (sym first);
     runs = ap front_held (sym first);

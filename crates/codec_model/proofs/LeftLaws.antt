@@ -5,9 +5,8 @@ use Rattle.std.proofs.lemmas.List.Sums.{count_by-le-length}
 use Rattle.std.proofs.lemmas.List.Filters.{sum_by-filter_both}
 use Rattle.codec_model.specs.declared.entry.{Work.Work, WorkKind.WorkKind, Message.Message, Item.Item, Running.Running, Task.Task, Ended.Ended}
 use Rattle.codec_model.specs.Control.{Control, is_coded, is_dequeue, after_message, process_queue, at_next_place, run_task, done_running, after_end, after_close, task_weight, left}
-use Rattle.codec_model.specs.{Replay.entry_of, Replay.removal_entry}
 use Rattle.codec_model.specs.Facts.{bit, is_step, CountsMessages, LeavesFewer}
-use Rattle.codec_model.specs.StepLaws.{EachStep, by_call, by_removal, by_work, by_queue, by_steps}
+use Rattle.codec_model.specs.StepLaws.{EachStep, by_work, by_queue, by_steps}
 use Rattle.codec_model.proofs.FactLaws.{counting, at_most_one, all_facts}
 
 -- messages are processed
@@ -47,14 +46,10 @@ done_left r e moment c = by (eqb r.epoch c.epoch)
 
 each_left : EachStep (λ e s t. is_step e ≡ true → CountsMessages s.control → left t.control + 1 ≤ left s.control)
 each_left = record {
-  call = λ who x s is h.
-      let none : is_step (entry_of who x) ≡ false = by_call (λ e. is_step e ≡ false) who (λ config. refl) (λ chunk. refl) refl x in absurd cc;
-  gone = λ who s is h. absurd cc;
-  kept = λ who s off is h. absurd cc;
-  cloned = λ who x s on is h. absurd cc;
-  remove = λ who r s is h.
-      let none : is_step (removal_entry who r) ≡ false = by_removal (λ e. is_step e ≡ false) who refl refl r in absurd cc;
-  take = λ who unit s may is h. absurd cc;
+  refused = λ who x error s may e is h. absurd cc;
+  sent = λ who x w s m may e is h. absurd cc;
+  removes_all = λ who x s removes e is h. absurd cc;
+  takes = λ who unit s may is h. absurd cc;
   start = λ i is epoch item s first may _ h. rw first (omega arith);
   done = λ r e epoch item moment x s running own is _ h. subst (λ (o : Option Running). left (done_running r e moment (at_next_place s.control)) + 1 ≤ left (record s.control { running = o })) (sym running) (done_left r e moment s.control);
   turn = λ x ts s first _ h. subst (λ (xs : List Task). left (run_task x (record (at_next_place s.control) { tasks = ts })) + 1 ≤ left (record s.control { tasks = xs })) (sym first) (task_left x ts s.control h.size);

@@ -12,8 +12,6 @@ use Rattle.wc_config.specs.declared.config.AudioDecoderConfig.{AudioDecoderConfi
 use Rattle.wc_config.specs.declared.kind.Kind.{Kind}
 use Rattle.wc_config.specs.declared.kind.Kind.TheVariants as kinds
 use Rattle.codec_model.specs.declared.entry.Opening.{Opening}
-use Rattle.codec_model.specs.declared.entry.Removal.{Removal}
-use Rattle.codec_model.specs.declared.entry.Removal.TheVariants as removal
 use Rattle.codec_model.specs.declared.entry.CodecState.{CodecState}
 use Rattle.codec_model.specs.declared.entry.CodecState.TheVariants.{Unconfigured, Configured, Closed}
 use Rattle.codec_model.specs.declared.entry.Pair.{Pair}
@@ -269,11 +267,6 @@ after_reset s = with_dequeue_if (not (s.size == 0)) (record s {
 -- Close: a reset, and then the codec is closed.
 abbrev pub after_close : Control → Control
 after_close s = record (after_reset s) { phase = Closed }
-
--- a caller's reset or close
-abbrev pub after_removal : Removal → Control → Control
-after_removal removal.Reset s = after_reset s
-after_removal removal.Close s = after_close s
 
 -- how long a codec counts as active after its last item ended, in microseconds (our choice)
 abbrev pub activity : ℕ

@@ -1,5 +1,5 @@
 -- The references that a codec holds, and by which entry it lets them go (our choice).
-use Rattle.std.specs.Prelude.{◌≡◌, Bool, true, false, List, [], ◌∷◌, ◌++◌, Option, Some, None, is_none, if◌then◌else◌}
+use Rattle.std.specs.Prelude.{◌≡◌, ◌&&◌, Bool, true, false, List, [], ◌∷◌, ◌++◌, Option, Some, None, is_none, if◌then◌else◌}
 use Rattle.codec_model.specs.declared.entry.Pair.{Pair}
 use Rattle.codec_model.specs.declared.entry.Handed.TheVariants as handed
 use Rattle.codec_model.specs.declared.entry.Running.{Running}
@@ -9,7 +9,8 @@ use Rattle.codec_model.specs.declared.entry.Task.{Task}
 use Rattle.codec_model.specs.declared.entry.Entry.{Entry}
 use Rattle.codec_model.specs.declared.entry.Entry.TheVariants as entry
 use Rattle.codec_model.specs.Control.{Control, held_of, is_close}
-use Rattle.codec_model.specs.Replay.{State, step, removal_error}
+use Rattle.codec_model.specs.declared.entry.Call.TheVariants as call
+use Rattle.codec_model.specs.Replay.{State, step, removes, call_error}
 
 abbrev pub in_order : {X : Type 0} → Option X → List X
 in_order None = []
@@ -45,8 +46,7 @@ closes_codec (t ∷ ts) = is_close t
 
 -- an entry that removes what waits: a reset or close that is not refused, a turn that closes the codec, a reclaim
 abbrev pub is_removal : Entry → State → Bool
-is_removal (entry.Reset who) s = is_none (removal_error s.control)
-is_removal (entry.Close who) s = is_none (removal_error s.control)
+is_removal (entry.Call who x) s = removes x && is_none (call_error x s.control)
 is_removal entry.Turn s = closes_codec s.control.tasks
 is_removal (entry.Reclaim moment) s = true
 is_removal _ s = false
@@ -65,7 +65,7 @@ leaves_held e s = if is_done e then waiting_held s.control else (if is_removal e
 
 -- an encode that is accepted adds the reference of its clone
 abbrev pub adds_held : Entry → List Pair
-adds_held (entry.Encode who (handed.Cloned sound)) = sound.pair ∷ []
+adds_held (entry.Call who (call.Encode (handed.Cloned sound))) = sound.pair ∷ []
 adds_held _ = []
 
 -- after each entry a codec holds what the entry leaves, and what it adds

@@ -35,13 +35,11 @@ use Rattle.codec_model.specs.declared.entry.Ended.{Ended}
 use Rattle.codec_model.specs.declared.entry.Ended.TheVariants as ended
 use Rattle.codec_model.specs.declared.entry.Outcome.{Outcome}
 use Rattle.codec_model.specs.declared.entry.Outcome.TheVariants as outcome
-use Rattle.codec_model.specs.declared.entry.Removal.{Removal}
-use Rattle.codec_model.specs.declared.entry.Removal.TheVariants as removal
 use Rattle.codec_model.specs.declared.entry.Call.{Call}
 use Rattle.codec_model.specs.declared.entry.Call.TheVariants as call
 use Rattle.codec_model.specs.declared.entry.Entry.{Entry}
 use Rattle.codec_model.specs.declared.entry.Entry.TheVariants as entry
-use Rattle.codec_model.specs.Control.{Control, opening_control, is_key_chunk, may_start, after_configure, after_decode, after_flush, start_front, done_running, at_next_place, after_removal, after_close, may_reclaim, run_front, held_of, after_encode, after_take, may_take}
+use Rattle.codec_model.specs.Control.{Control, opening_control, is_key_chunk, may_start, after_configure, after_decode, after_flush, start_front, done_running, at_next_place, after_reset, after_close, may_reclaim, run_front, held_of, after_encode, after_take, may_take}
 
 -- what the coder was given in one epoch: its last configuration, and the commands since
 pub record Given : Type 0 where
@@ -161,25 +159,6 @@ flush_error c = elim (c.phase) [ Unconfigured ↦ Some dom.InvalidState | Config
 abbrev pub removal_error : Control → Option DomError
 removal_error c = elim (c.phase) [ Unconfigured ↦ None | Configured ↦ None | Closed ↦ Some dom.InvalidState ]
 
-abbrev pub call_error : Call → Control → Option DomError
-call_error (call.Configure config) c = configure_error config c
-call_error (call.Decode chunk) c = decode_error chunk c
-call_error call.Flush c = flush_error c
-
--- a call that is not refused
-abbrev pub accepted : Call → Control → Control
-accepted (call.Configure config) c = after_configure c.place config (at_next_place c)
-accepted (call.Decode chunk) c = after_decode c.place chunk (at_next_place c)
-accepted call.Flush c = after_flush c.place (at_next_place c)
-
--- a call at its place: refused with this error it has its entry and does nothing else
-abbrev pub after_call : Option DomError → Call → Control → Control
-after_call None x c = accepted x c
-after_call (Some error) x c = at_next_place c
-
-abbrev pub call_step : Call → State → State
-call_step x s = with_control (after_call (call_error x s.control) x s.control) s
-
 abbrev pub is_configured : Control → Bool
 is_configured c = elim (c.phase) [ Unconfigured ↦ false | Configured ↦ true | Closed ↦ false ]
 
@@ -187,26 +166,100 @@ is_configured c = elim (c.phase) [ Unconfigured ↦ false | Configured ↦ true 
 abbrev pub encode_error : Bool → Control → Option DomError
 encode_error detached c = if detached then Some dom.TypeErr else (if is_configured c then None else Some dom.InvalidState)
 
--- An encode: of data that is not detached, the codec makes a clone exactly where it is configured.
-abbrev pub encode_step : Handed → State → Option State
-encode_step handed.Gone s = Some (with_control (at_next_place s.control) s)
-encode_step handed.Kept s = if is_configured s.control then None else Some (with_control (at_next_place s.control) s)
-encode_step (handed.Cloned sound) s = if is_configured s.control then Some (with_control (after_encode s.control.place sound (at_next_place s.control)) s) else None
+-- what became of an encode's data tells its error, if it has one
+abbrev pub handed_error : Handed → Option DomError
+handed_error handed.Gone = Some dom.TypeErr
+handed_error handed.Kept = Some dom.InvalidState
+handed_error (handed.Cloned sound) = None
 
-abbrev pub take_step : ℕ → State → Option State
-take_step unit s = if may_take unit s.control then Some (with_control (after_take (at_next_place s.control)) s) else None
+-- what became of the data of an encode that is refused, which was detached or not
+abbrev pub refused_as : Bool → Handed
+refused_as detached = if detached then handed.Gone else handed.Kept
+
+abbrev pub is_cloned : Handed → Bool
+is_cloned handed.Gone = false
+is_cloned handed.Kept = false
+is_cloned (handed.Cloned sound) = true
+
+-- what a call asks for by its message, where it is not refused; the others send none
+abbrev pub message_of : Call → Option Work
+message_of (call.Configure config) = Some (work.Configure config)
+message_of (call.Decode chunk) = Some (work.Coded (coded.Chunk chunk))
+message_of (call.Encode handed.Gone) = None
+message_of (call.Encode handed.Kept) = None
+message_of (call.Encode (handed.Cloned sound)) = Some (work.Coded (coded.Sound sound))
+message_of call.Flush = Some work.Flush
+message_of call.Reset = None
+message_of call.Close = None
+message_of (call.Take unit) = None
+
+abbrev pub sends : Call → Bool
+sends x = is_some (message_of x)
+
+-- the error with which a call is refused
+abbrev pub call_error : Call → Control → Option DomError
+call_error (call.Configure config) c = configure_error config c
+call_error (call.Decode chunk) c = decode_error chunk c
+call_error (call.Encode handed) c = handed_error handed
+call_error call.Flush c = flush_error c
+call_error call.Reset c = removal_error c
+call_error call.Close c = removal_error c
+call_error (call.Take unit) c = None
+
+-- of data that is not detached, the codec makes a clone exactly where it is configured
+abbrev pub may_hand : Handed → Control → Bool
+may_hand handed.Gone c = true
+may_hand handed.Kept c = not (is_configured c)
+may_hand (handed.Cloned sound) c = is_configured c
+
+-- whether this call can be made: an encode is told what becomes of its data, and a take which output is the next
+abbrev pub may_call : Call → Control → Bool
+may_call (call.Encode handed) c = may_hand handed c
+may_call (call.Take unit) c = may_take unit c
+may_call _ c = true
+
+abbrev pub after_handed : Handed → Control → Control
+after_handed handed.Gone c = at_next_place c
+after_handed handed.Kept c = at_next_place c
+after_handed (handed.Cloned sound) c = after_encode c.place sound (at_next_place c)
+
+-- a call that is not refused
+abbrev pub accepted : Call → Control → Control
+accepted (call.Configure config) c = after_configure c.place config (at_next_place c)
+accepted (call.Decode chunk) c = after_decode c.place chunk (at_next_place c)
+accepted (call.Encode handed) c = after_handed handed c
+accepted call.Flush c = after_flush c.place (at_next_place c)
+accepted call.Reset c = after_reset (at_next_place c)
+accepted call.Close c = after_close (at_next_place c)
+accepted (call.Take unit) c = after_take (at_next_place c)
+
+-- a call at its place: refused with this error it has its entry and does nothing else
+abbrev pub after_call : Option DomError → Call → Control → Control
+after_call None x c = accepted x c
+after_call (Some error) x c = at_next_place c
+
+-- a call that removes all that is queued
+abbrev pub removes : Call → Bool
+removes call.Reset = true
+removes call.Close = true
+removes _ = false
+
+-- a call that takes an output
+abbrev pub takes : Call → Bool
+takes (call.Take unit) = true
+takes _ = false
 
 -- a removal begins a new epoch, to which nothing was given
 abbrev pub removed : Control → State → State
 removed c s = record s { control = c; given = nothing_given }
 
--- a reset or close at its place, refused with this error or made
-abbrev pub remove_or_refuse : Option DomError → Removal → State → State
-remove_or_refuse None r s = removed (after_removal r (at_next_place s.control)) s
-remove_or_refuse (Some error) r s = with_control (at_next_place s.control) s
+-- a call, refused with this error or made
+abbrev pub called : Option DomError → Call → State → State
+called None x s = if removes x then removed (accepted x s.control) s else with_control (accepted x s.control) s
+called (Some error) x s = with_control (at_next_place s.control) s
 
-abbrev pub removal_step : Removal → State → State
-removal_step r s = remove_or_refuse (removal_error s.control) r s
+abbrev pub call_step : Call → State → State
+call_step x s = called (call_error x s.control) x s
 
 abbrev pub start_step : List Item → ℕ → ℕ → State → Option State
 start_step [] epoch item s = None
@@ -231,40 +284,11 @@ turn_step (t ∷ ts) s = Some (with_control (run_front (at_next_place s.control)
 
 -- One entry after a state; none where it is not legal there.
 abbrev pub step : Entry → State → Option State
-step (entry.Configure who config) s = Some (call_step (call.Configure config) s)
-step (entry.Decode who chunk) s = Some (call_step (call.Decode chunk) s)
-step (entry.Encode who handed) s = encode_step handed s
-step (entry.Flush who) s = Some (call_step call.Flush s)
-step (entry.Reset who) s = Some (removal_step removal.Reset s)
-step (entry.Close who) s = Some (removal_step removal.Close s)
-step (entry.Take who unit) s = take_step unit s
+step (entry.Call who x) s = if may_call x s.control then Some (call_step x s) else None
 step (entry.Start epoch item) s = start_step s.control.work epoch item s
 step (entry.Done epoch item moment o) s = done_step s.control.running epoch item moment o s
 step entry.Turn s = turn_step s.control.tasks s
 step (entry.Reclaim moment) s = if may_reclaim moment s.control then Some (removed (after_close (at_next_place s.control)) s) else None
-
--- the entry that a call makes
-abbrev pub entry_of : Who → Call → Entry
-entry_of who (call.Configure config) = entry.Configure who config
-entry_of who (call.Decode chunk) = entry.Decode who chunk
-entry_of who call.Flush = entry.Flush who
-
--- what became of the data of an encode that is refused, which was detached or not
-abbrev pub refused_as : Bool → Handed
-refused_as detached = if detached then handed.Gone else handed.Kept
-
--- the entry of an encode that is refused
-abbrev pub refused_encode : Who → Bool → Entry
-refused_encode who detached = entry.Encode who (refused_as detached)
-
--- the entry of an encode of which the codec makes a clone
-abbrev pub encode_entry : Who → HeldSound → Entry
-encode_entry who sound = entry.Encode who (handed.Cloned sound)
-
--- the entry that a reset or close makes
-abbrev pub removal_entry : Who → Removal → Entry
-removal_entry who removal.Reset = entry.Reset who
-removal_entry who removal.Close = entry.Close who
 
 abbrev pub replay_from : List Entry → State → Option State
 replay_from [] s = Some s

@@ -4,8 +4,6 @@ use Rattle.std.specs.List.{flat_map}
 use Rattle.wc_base.specs.declared.error.DomError.{DomError}
 use Rattle.wc_base.specs.declared.error.DomError.TheVariants as dom
 use Rattle.codec_definitions.specs.declared.unit.Unit as media
-use Rattle.codec_model.specs.declared.entry.Handed.{Handed}
-use Rattle.codec_model.specs.declared.entry.Handed.TheVariants as handed
 use Rattle.codec_model.specs.declared.entry.Opening.{Opening}
 use Rattle.codec_model.specs.declared.entry.PromiseEnd.{PromiseEnd}
 use Rattle.codec_model.specs.declared.entry.PromiseState.{PromiseState}
@@ -26,36 +24,22 @@ use Rattle.codec_model.specs.declared.entry.Entry.{Entry}
 use Rattle.codec_model.specs.declared.entry.Entry.TheVariants as entry
 use Rattle.wc_config.specs.declared.config.AudioDecoderConfig.{AudioDecoderConfig}
 use Rattle.codec_model.specs.Control.{Control, carried}
-use Rattle.codec_model.specs.Replay.{State, step, opening_state, configure_error, decode_error, flush_error, removal_error}
-
-abbrev pub refusal : Option DomError → List Event
-refusal None = []
-refusal (Some error) = Refusal error ∷ []
-
-abbrev pub rejection : ℕ → Option DomError → List Event
-rejection place None = []
-rejection place (Some error) = Reject place error ∷ []
+use Rattle.codec_model.specs.Replay.{State, step, opening_state, call_error}
 
 -- The exception of a call with this error, if it has one. A flush has none: its promise is rejected.
 abbrev pub exception_of : Call → Option DomError → Option DomError
-exception_of (call.Configure config) error = error
-exception_of (call.Decode chunk) error = error
 exception_of call.Flush error = None
+exception_of _ error = error
 
 -- the promise that a call gives: a flush's is named by its entry's place
 abbrev pub promise_of : Call → ℕ → Option ℕ
-promise_of (call.Configure config) place = None
-promise_of (call.Decode chunk) place = None
 promise_of call.Flush place = Some place
+promise_of _ place = None
 
 -- what a refused call shows: its exception, or that its promise is rejected, if it gives one
-abbrev pub refused_shows : Option ℕ → Option DomError → List Event
-refused_shows None error = refusal error
-refused_shows (Some promise) error = rejection promise error
-
--- what a call at this place shows, with its error, if it has one
-abbrev pub call_shows : Call → ℕ → Option DomError → List Event
-call_shows x place error = refused_shows (promise_of x place) error
+abbrev pub refused_shows : Option ℕ → DomError → List Event
+refused_shows None error = Refusal error ∷ []
+refused_shows (Some promise) error = Reject promise error ∷ []
 
 -- the pending promises, each rejected
 abbrev pub rejections : DomError → List ℕ → List Event
@@ -66,10 +50,19 @@ rejections error (p ∷ ps) = Reject p error ∷ rejections error ps
 abbrev pub close_shows : DomError → List ℕ → List Event
 close_shows error pending = rejections error pending ++ ErrorCall error ∷ []
 
--- what a reset or close shows, refused with this error or made, with these promises pending
-abbrev pub removal_shows : Option DomError → List ℕ → List Event
-removal_shows None pending = rejections dom.Abort pending
-removal_shows (Some error) pending = Refusal error ∷ []
+-- what a reset or close shows that is not refused
+abbrev pub removal_shows : List ℕ → List Event
+removal_shows pending = rejections dom.Abort pending
+
+abbrev pub accepted_shows : Call → List ℕ → List Event
+accepted_shows call.Reset pending = removal_shows pending
+accepted_shows call.Close pending = removal_shows pending
+accepted_shows _ pending = []
+
+-- what a call at this place shows, refused with this error or made, with these promises pending
+abbrev pub call_shows : Call → ℕ → List ℕ → Option DomError → List Event
+call_shows x place pending None = accepted_shows x pending
+call_shows x place pending (Some error) = refused_shows (promise_of x place) error
 
 -- what a reclaim shows
 abbrev pub reclaim_shows : List ℕ → List Event
@@ -100,20 +93,8 @@ abbrev pub turn_shows : List Task → Control → List Event
 turn_shows [] c = []
 turn_shows (t ∷ ts) c = task_shows (task_carried c.active t) c.shown c.pending
 
--- what became of an encode's data tells its error, if it has one
-abbrev pub handed_error : Handed → Option DomError
-handed_error handed.Gone = Some dom.TypeErr
-handed_error handed.Kept = Some dom.InvalidState
-handed_error (handed.Cloned sound) = None
-
 abbrev pub shows : Entry → State → List Event
-shows (entry.Configure who config) s = call_shows (call.Configure config) s.control.place (configure_error config s.control)
-shows (entry.Decode who chunk) s = call_shows (call.Decode chunk) s.control.place (decode_error chunk s.control)
-shows (entry.Encode who handed) s = refusal (handed_error handed)
-shows (entry.Flush who) s = call_shows call.Flush s.control.place (flush_error s.control)
-shows (entry.Reset who) s = removal_shows (removal_error s.control) s.control.pending
-shows (entry.Close who) s = removal_shows (removal_error s.control) s.control.pending
-shows (entry.Take who unit) s = []
+shows (entry.Call who x) s = call_shows x s.control.place s.control.pending (call_error x s.control)
 shows (entry.Start epoch item) s = []
 shows (entry.Done epoch item moment o) s = []
 shows entry.Turn s = turn_shows s.control.tasks s.control
@@ -208,9 +189,9 @@ each_shown o history = each_shown_from history (opening_state o)
 -- what is kept of an entry's showing stands for all that it shows
 abbrev pub shown_of : Showing → Shown
 shown_of showing.Nothing = record { turn = None; events = [] }
-shown_of (showing.Refusal error) = record { turn = None; events = removal_shows (Some error) [] }
-shown_of (showing.Rejection promise error) = record { turn = None; events = rejection promise (Some error) }
-shown_of (showing.Removal promises) = record { turn = None; events = removal_shows None promises }
+shown_of (showing.Refusal error) = record { turn = None; events = refused_shows None error }
+shown_of (showing.Rejection promise error) = record { turn = None; events = refused_shows (Some promise) error }
+shown_of (showing.Removal promises) = record { turn = None; events = removal_shows promises }
 shown_of (showing.Reclaim promises) = record { turn = None; events = reclaim_shows promises }
 shown_of (showing.Turn t outputs) = record { turn = Some (word_of_task t); events = task_shows t outputs [] }
 shown_of (showing.Close error promises) = record { turn = Some (turn.Close error); events = close_shows error promises }

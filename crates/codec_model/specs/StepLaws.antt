@@ -1,6 +1,6 @@
 -- What legal entries do to a codec's state, case by case: what holds in each case holds of each step.
-use Rattle.std.proofs.Common.{ℕ, ◌≡◌, ◌≤◌, ◌+◌, ◌-◌, ◌&&◌, not, Bool, true, false, eqb, cond, List, [], ◌∷◌, ◌++◌, Option, Some, None, is_some, refl, ap, sym, subst, ◌∙◌, arith}
-use Rattle.std.specs.Prelude.{◌||◌}
+use Rattle.std.proofs.Common.{ℕ, ◌≡◌, ◌≤◌, ◌+◌, ◌-◌, ◌&&◌, not, Bool, true, false, eqb, cond, List, [], ◌∷◌, ◌++◌, Option, Some, None, is_some, is_none, refl, ap, sym, subst, ◌∙◌, arith}
+use Rattle.std.specs.Prelude.{◌||◌, unwrap_or}
 use Rattle.std.proofs.lemmas.Bool.{and_parts}
 use Rattle.wc_base.specs.declared.error.DomError.{DomError}
 use Rattle.wc_base.specs.declared.error.DomError.TheVariants as dom
@@ -9,9 +9,6 @@ use Rattle.wc_base.specs.Options.{cond_is, some_same}
 use Rattle.wc_config.specs.declared.config.Config.{Config}
 use Rattle.wc_config.specs.declared.codec.CoderId.{CoderId}
 use Rattle.wc_config.specs.Configs.{is_valid, is_supported, coder_id_of}
-use Rattle.wc_chunk.specs.declared.chunk.Chunk.{Chunk}
-use Rattle.codec_model.specs.declared.entry.Removal.{Removal}
-use Rattle.codec_model.specs.declared.entry.Removal.TheVariants as removal
 use Rattle.codec_model.specs.declared.entry.Call.{Call}
 use Rattle.codec_model.specs.declared.entry.Call.TheVariants as call
 use Rattle.codec_model.specs.declared.entry.CodecState.{CodecState}
@@ -24,7 +21,6 @@ use Rattle.codec_model.specs.declared.entry.WorkKind.{WorkKind}
 use Rattle.codec_model.specs.declared.entry.WorkKind.TheVariants as kind
 use Rattle.codec_definitions.specs.declared.unit.Unit as media
 use Rattle.codec_definitions.specs.Answers.{last_answer}
-use Rattle.codec_model.specs.declared.entry.HeldSound.{HeldSound}
 use Rattle.codec_model.specs.declared.entry.Handed.TheVariants as handed
 use Rattle.codec_model.specs.declared.entry.Entry.{Entry}
 use Rattle.codec_model.specs.declared.entry.Entry.TheVariants as entry
@@ -37,9 +33,10 @@ use Rattle.codec_model.specs.declared.entry.Ended.{Ended}
 use Rattle.codec_model.specs.declared.entry.Ended.TheVariants as ended
 use Rattle.codec_model.specs.declared.entry.Outcome.{Outcome}
 use Rattle.codec_model.specs.declared.entry.Outcome.TheVariants as outcome
-use Rattle.codec_model.specs.Control.{Control, kind_of, held_of, is_decoder, coded_out, is_taken, with_item, after_message, process_queue, with_message, at_next_place, start_first, may_start, after_close, after_encode, after_take, may_take, may_reclaim, run_first, run_task, done_running}
-use Rattle.codec_model.specs.Replay.{State, Given, nothing_given, given_more, serves_too, missing_coder, answers_to, answer_to, decoder_config, labelled_answer, call_error, configure_error, decode_error, flush_error, removal_error, is_configured, with_control, removed, accepted, entry_of, removal_entry, call_step, removal_step, start_step, done_step, done_ended, ended_of, turn_step, step}
-use Rattle.codec_model.specs.Shown.{promise_of, refused_shows, call_shows, removal_shows, rejections, close_shows, turn_shows, handed_error, shows, units_in}
+use Rattle.codec_model.specs.Control.{Control, kind_of, held_of, is_decoder, coded_out, is_taken, with_item, after_message, process_queue, with_message, at_next_place, start_first, may_start, after_close, after_take, may_take, may_reclaim, run_first, run_task, done_running}
+use Rattle.codec_model.specs.Replay.{State, Given, nothing_given, given_more, serves_too, missing_coder, answers_to, answer_to, decoder_config, labelled_answer, call_error, may_call, message_of, sends, removes, with_control, removed, accepted, called, call_step, start_step, done_step, done_ended, ended_of, turn_step, step}
+use Rattle.codec_model.specs.Held.{is_removal}
+use Rattle.codec_model.specs.Shown.{promise_of, refused_shows, call_shows, rejections, close_shows, turn_shows, shows, units_in}
 
 -- what holds of a codec, and stays as each message is taken, holds when its queue was processed
 pub by_queue : (Q : Control → Type 0) → ((m : Message) (ms : List Message) (c : Control) → c.messages ≡ m ∷ ms → Q c → Q (record (after_message m c) { messages = ms })) → (ms : List Message) (c : Control) → c.messages ≡ ms → Q c → Q (process_queue ms c)
@@ -50,22 +47,7 @@ by_queue Q taken (m ∷ ms) c e h = by (is_taken m c) (by_queue Q taken ms (reco
     by true rest = rest
     by false rest = h
 
--- ---- the cases of a call, of a removal and of a work item
-
--- what holds of each call
-pub by_calls : (P : Call → Type 0) → ((config : Config) → P (call.Configure config)) → ((chunk : Chunk) → P (call.Decode chunk)) → P call.Flush → (x : Call) → P x
-by_calls P configure decode flush (call.Configure config) = configure config
-by_calls P configure decode flush (call.Decode chunk) = decode chunk
-by_calls P configure decode flush call.Flush = flush
-
--- what holds of the entry of each call
-pub by_call : (P : Entry → Type 0) (who : Who) → ((config : Config) → P (entry.Configure who config)) → ((chunk : Chunk) → P (entry.Decode who chunk)) → P (entry.Flush who) → (x : Call) → P (entry_of who x)
-by_call P who configure decode flush x = by_calls (λ (y : Call). P (entry_of who y)) configure decode flush x
-
--- what holds of the entry of each removal
-pub by_removal : (P : Entry → Type 0) (who : Who) → P (entry.Reset who) → P (entry.Close who) → (r : Removal) → P (removal_entry who r)
-by_removal P who reset close removal.Reset = reset
-by_removal P who reset close removal.Close = close
+-- ---- the cases of a work item
 
 -- what holds of all that a message or an item may ask for
 pub by_work : (P : Work → Type 0) → ((config : Config) → P (work.Configure config)) → ((input : Coded) → P (work.Coded input)) → P work.Flush → (w : Work) → P w
@@ -83,33 +65,49 @@ lacking_may_be_refused work.Flush g id n h = absurd cc
 
 -- ---- messages
 
--- what a call asks for, as its message says it
-abbrev pub work_of : Call → Work
-work_of (call.Configure config) = work.Configure config
-work_of (call.Decode chunk) = work.Coded (coded.Chunk chunk)
-work_of call.Flush = work.Flush
-
--- it holds no reference
-pub calls_hold_none : (x : Call) → held_of (work_of x) ≡ None
-calls_hold_none (call.Configure config) = refl
-calls_hold_none (call.Decode chunk) = refl
-calls_hold_none call.Flush = refl
-
 -- its promise is named by the place of its entry
 pub own_promise : (x : Call) (place p : ℕ) → promise_of x place ≡ Some p → p ≡ place
-own_promise (call.Configure config) place p h = absurd cc
-own_promise (call.Decode chunk) place p h = absurd cc
 own_promise call.Flush place p h = cc
+own_promise x place p h = absurd cc
 
--- a closed codec refuses it
-pub closed_refuses : (x : Call) (c : Control) → c.phase ≡ Closed → is_some (call_error x c) ≡ true
-closed_refuses (call.Configure config) c closed = rw closed (by (is_valid config))
+-- a closed codec refuses each call that would send a message
+pub closed_refuses : (x : Call) (c : Control) → sends x ≡ true → may_call x c ≡ true → c.phase ≡ Closed → is_some (call_error x c) ≡ true
+closed_refuses (call.Configure config) c some may closed = rw closed (by (is_valid config))
   where
     by : (b : Bool) → is_some (cond b (Some dom.InvalidState) (Some dom.TypeErr)) ≡ true
     by true = refl
     by false = refl
-closed_refuses (call.Decode chunk) c closed = rw closed refl
-closed_refuses call.Flush c closed = rw closed refl
+closed_refuses (call.Decode chunk) c some may closed = rw closed refl
+closed_refuses (call.Encode (handed.Cloned sound)) c some may closed = absurd (let none = rw closed at may in cc)
+closed_refuses call.Flush c some may closed = rw closed refl
+closed_refuses x c some may closed = absurd cc
+
+-- a call that sends a message removes nothing
+pub senders_stay : (x : Call) (w : Work) → message_of x ≡ Some w → removes x ≡ false
+senders_stay call.Reset w m = absurd cc
+senders_stay call.Close w m = absurd cc
+senders_stay x w m = refl
+
+-- a call that is refused, or sends a message, removes nothing; any other reset or close does
+pub refused_stays : (who : Who) (x : Call) (error : DomError) (s : State) → call_error x s.control ≡ Some error → is_removal (entry.Call who x) s ≡ false
+refused_stays who x error s e = by (removes x) (call_error x s.control) e
+  where
+    by : (b : Bool) (o : Option DomError) → o ≡ Some error → (b && is_none o) ≡ false
+    by true None e = absurd cc
+    by true (Some y) e = refl
+    by false o e = refl
+
+pub sent_stays : (who : Who) (x : Call) (w : Work) (s : State) → message_of x ≡ Some w → is_removal (entry.Call who x) s ≡ false
+sent_stays who x w s m = ap (λ (b : Bool). b && is_none (call_error x s.control)) (senders_stay x w m)
+
+pub removal_goes : (who : Who) (x : Call) (s : State) → removes x ≡ true → call_error x s.control ≡ None → is_removal (entry.Call who x) s ≡ true
+removal_goes who x s is e = ap (λ (b : Bool). b && is_none (call_error x s.control)) is ∙ ap is_none e
+
+-- what holds of a reset and of a close holds of each call that removes what is queued
+pub by_removals : (P : Call → Type 0) → P call.Reset → P call.Close → (x : Call) → removes x ≡ true → P x
+by_removals P reset close call.Reset is = reset
+by_removals P reset close call.Close is = close
+by_removals P reset close x is = absurd cc
 
 -- what calls and encodes change before their message is processed: these four at most, beside the place
 abbrev pub asked : Control → CodecState → Bool → ℕ → List ℕ → Control
@@ -124,15 +122,16 @@ pub record Sends (w : Work) (c d : Control) : Type 0 where
   pub few : size ≤ c.size + 1
   pub is : d ≡ with_message c.place w (asked c phase key_required size pending)
 
--- a call that is not refused sends its message
-pub call_sends : (x : Call) (c : Control) → Sends (work_of x) c (accepted x c)
-call_sends (call.Configure config) c = record { phase = Configured; key_required = is_decoder c.opening.kind || c.key_required; size = c.size; pending = c.pending; few = omega arith; is = refl }
-call_sends (call.Decode chunk) c = record { phase = c.phase; key_required = false; size = c.size + 1; pending = c.pending; few = omega arith; is = refl }
-call_sends call.Flush c = record { phase = c.phase; key_required = is_decoder c.opening.kind || c.key_required; size = c.size; pending = c.pending ++ c.place ∷ []; few = omega arith; is = refl }
-
--- and so does an encode
-pub encode_sends : (sound : HeldSound) (c : Control) → Sends (work.Coded (coded.Sound sound)) c (after_encode c.place sound (at_next_place c))
-encode_sends sound c = record { phase = c.phase; key_required = c.key_required; size = c.size + 1; pending = c.pending; few = omega arith; is = refl }
+-- a call that is not refused sends its message, if it has one
+pub call_sends : (x : Call) (w : Work) (c : Control) → message_of x ≡ Some w → Sends w c (accepted x c)
+call_sends x w c m = subst (λ (v : Work). Sends v c (accepted x c)) (by x w m).1 (by x w m).0
+  where
+    by : (x : Call) (w : Work) → message_of x ≡ Some w → Sends (unwrap_or (message_of x) w) c (accepted x c) × (unwrap_or (message_of x) w ≡ w)
+    by (call.Configure config) w m = (record { phase = Configured; key_required = is_decoder c.opening.kind || c.key_required; size = c.size; pending = c.pending; few = omega arith; is = refl }, some_same _ w m)
+    by (call.Decode chunk) w m = (record { phase = c.phase; key_required = false; size = c.size + 1; pending = c.pending; few = omega arith; is = refl }, some_same _ w m)
+    by (call.Encode (handed.Cloned sound)) w m = (record { phase = c.phase; key_required = c.key_required; size = c.size + 1; pending = c.pending; few = omega arith; is = refl }, some_same _ w m)
+    by call.Flush w m = (record { phase = c.phase; key_required = is_decoder c.opening.kind || c.key_required; size = c.size; pending = c.pending ++ c.place ∷ []; few = omega arith; is = refl }, some_same _ w m)
+    by x w m = absurd cc
 
 -- A message that is processed becomes an item. Of the rest these four may change, and an event may be queued.
 pub record BecomesItem (m : Message) (c : Control) : Type 0 where
@@ -176,11 +175,6 @@ by_answer P kind.Flush g us none answered h = answered h
 
 -- ---- what entries show
 
-pub call_is_shown : (who : Who) (x : Call) (s : State) → shows (entry_of who x) s ≡ call_shows x s.control.place (call_error x s.control)
-call_is_shown who (call.Configure config) s = refl
-call_is_shown who (call.Decode chunk) s = refl
-call_is_shown who call.Flush s = refl
-
 -- the outputs that the turn of an entry shows, if it is one
 abbrev pub turn_units : Entry → State → List media.Unit
 turn_units entry.Turn s = units_in (turn_shows s.control.tasks s.control)
@@ -194,34 +188,23 @@ pub closing_units : (x : DomError) (ps : List ℕ) → units_in (close_shows x p
 closing_units x [] = refl
 closing_units x (p ∷ ps) = closing_units x ps
 
-refused_units : (p : Option ℕ) (o : Option DomError) → units_in (refused_shows p o) ≡ []
-refused_units None None = refl
-refused_units None (Some x) = refl
-refused_units (Some p) None = refl
-refused_units (Some p) (Some x) = refl
-
-removal_units : (o : Option DomError) (ps : List ℕ) → units_in (removal_shows o ps) ≡ []
-removal_units None ps = rejections_units dom.Abort ps
-removal_units (Some error) ps = refl
+call_units : (x : Call) (place : ℕ) (pending : List ℕ) (o : Option DomError) → units_in (call_shows x place pending o) ≡ []
+call_units x place pending (Some error) = refused (promise_of x place)
+  where
+    refused : (p : Option ℕ) → units_in (refused_shows p error) ≡ []
+    refused None = refl
+    refused (Some promise) = refl
+call_units call.Reset place pending None = rejections_units dom.Abort pending
+call_units call.Close place pending None = rejections_units dom.Abort pending
+call_units x place pending None = refl
 
 -- only turns show outputs
 pub units_by_turns : (e : Entry) (s : State) → units_in (shows e s) ≡ turn_units e s
-units_by_turns (entry.Configure who config) s = refused_units None (configure_error config s.control)
-units_by_turns (entry.Decode who chunk) s = refused_units None (decode_error chunk s.control)
-units_by_turns (entry.Encode who handed) s = refused_units None (handed_error handed)
-units_by_turns (entry.Flush who) s = refused_units (Some s.control.place) (flush_error s.control)
-units_by_turns (entry.Reset who) s = removal_units (removal_error s.control) s.control.pending
-units_by_turns (entry.Close who) s = removal_units (removal_error s.control) s.control.pending
-units_by_turns (entry.Take who unit) s = refl
+units_by_turns (entry.Call who x) s = call_units x s.control.place s.control.pending (call_error x s.control)
 units_by_turns (entry.Start epoch item) s = refl
 units_by_turns (entry.Done epoch item moment o) s = refl
 units_by_turns entry.Turn s = refl
 units_by_turns (entry.Reclaim moment) s = closing_units dom.QuotaExceeded s.control.pending
-
--- where a test fails
-unless_is : {X : Type 0} (b : Bool) (x t : X) → cond b None (Some x) ≡ Some t → (b ≡ false) × (x ≡ t)
-unless_is true x t h = absurd cc
-unless_is false x t h = (refl, some_same x t h)
 
 -- this item may begin
 abbrev pub begins : ℕ → ℕ → Item → Control → Bool
@@ -245,12 +228,10 @@ task_ran x ts s = record s { control = run_task x (record (at_next_place s.contr
 
 -- What has to be shown of each kind of step.
 pub record EachStep (P : Entry → State → State → Type 0) : Type 0 where
-  pub call : (who : Who) (x : Call) (s : State) → P (entry_of who x) s (call_step x s)
-  pub gone : (who : Who) (s : State) → P (entry.Encode who handed.Gone) s (with_control (at_next_place s.control) s)
-  pub kept : (who : Who) (s : State) → is_configured s.control ≡ false → P (entry.Encode who handed.Kept) s (with_control (at_next_place s.control) s)
-  pub cloned : (who : Who) (x : HeldSound) (s : State) → is_configured s.control ≡ true → P (entry.Encode who (handed.Cloned x)) s (with_control (after_encode s.control.place x (at_next_place s.control)) s)
-  pub remove : (who : Who) (r : Removal) (s : State) → P (removal_entry who r) s (removal_step r s)
-  pub take : (who : Who) (unit : ℕ) (s : State) → may_take unit s.control ≡ true → P (entry.Take who unit) s (with_control (after_take (at_next_place s.control)) s)
+  pub refused : (who : Who) (x : Call) (error : DomError) (s : State) → may_call x s.control ≡ true → call_error x s.control ≡ Some error → P (entry.Call who x) s (with_control (at_next_place s.control) s)
+  pub sent : (who : Who) (x : Call) (w : Work) (s : State) → message_of x ≡ Some w → may_call x s.control ≡ true → call_error x s.control ≡ None → P (entry.Call who x) s (with_control (accepted x s.control) s)
+  pub removes_all : (who : Who) (x : Call) (s : State) → removes x ≡ true → call_error x s.control ≡ None → P (entry.Call who x) s (removed (accepted x s.control) s)
+  pub takes : (who : Who) (unit : ℕ) (s : State) → may_take unit s.control ≡ true → P (entry.Call who (call.Take unit)) s (with_control (after_take (at_next_place s.control)) s)
   pub start : (i : Item) (is : List Item) (epoch item : ℕ) (s : State) → s.control.work ≡ i ∷ is → begins epoch item i s.control ≡ true → P (entry.Start epoch item) s (begun (i ∷ is) i s)
   pub done : (r : Running) (e : Ended) (epoch item moment : ℕ) (o : Outcome) (s : State) → s.control.running ≡ Some r → (eqb r.epoch epoch && eqb r.number item) ≡ true → ended_of r.kind s.running_given o ≡ Some e → P (entry.Done epoch item moment o) s (with_control (done_running r e moment (at_next_place s.control)) s)
   pub turn : (x : Task) (ts : List Task) (s : State) → s.control.tasks ≡ x ∷ ts → P entry.Turn s (task_ran x ts s)
@@ -296,17 +277,23 @@ module _ (P : Entry → State → State → Type 0) (each : EachStep P) where
   turn_each [] s t e h = absurd (let none : turn_step [] s ≡ Some t = subst (λ (l : List Task). turn_step l s ≡ Some t) e h in cc)
   turn_each (x ∷ ts) s t e h = subst (P entry.Turn s) (some_same (task_ran x ts s) t (sym (turn_made x ts s e) ∙ h)) (each.turn x ts s e)
 
+  call_each : (who : Who) (x : Call) (s : State) → may_call x s.control ≡ true → (o : Option DomError) → call_error x s.control ≡ o → P (entry.Call who x) s (called o x s)
+  call_each who x s may (Some error) e = each.refused who x error s may e
+  call_each who (call.Configure config) s may None e = each.sent who (call.Configure config) _ s refl may e
+  call_each who (call.Decode chunk) s may None e = each.sent who (call.Decode chunk) _ s refl may e
+  call_each who (call.Encode (handed.Cloned sound)) s may None e = each.sent who (call.Encode (handed.Cloned sound)) _ s refl may e
+  call_each who (call.Encode handed.Gone) s may None e = absurd cc
+  call_each who (call.Encode handed.Kept) s may None e = absurd cc
+  call_each who call.Flush s may None e = each.sent who call.Flush _ s refl may e
+  call_each who call.Reset s may None e = each.removes_all who call.Reset s refl e
+  call_each who call.Close s may None e = each.removes_all who call.Close s refl e
+  call_each who (call.Take unit) s may None e = each.takes who unit s may
+
   -- what holds of each kind of step holds of each legal entry
   pub by_steps : (e : Entry) (s t : State) → step e s ≡ Some t → P e s t
-  by_steps (entry.Configure who config) s t is = subst (P (entry.Configure who config) s) (some_same _ t is) (each.call who (call.Configure config) s)
-  by_steps (entry.Decode who chunk) s t is = subst (P (entry.Decode who chunk) s) (some_same _ t is) (each.call who (call.Decode chunk) s)
-  by_steps (entry.Encode who handed.Gone) s t is = subst (P (entry.Encode who handed.Gone) s) (some_same _ t is) (each.gone who s)
-  by_steps (entry.Encode who handed.Kept) s t is = let k = unless_is (is_configured s.control) _ t is in subst (P (entry.Encode who handed.Kept) s) k.1 (each.kept who s k.0)
-  by_steps (entry.Encode who (handed.Cloned x)) s t is = let k = cond_is (is_configured s.control) _ t is in subst (P (entry.Encode who (handed.Cloned x)) s) (some_same _ t k.1) (each.cloned who x s k.0)
-  by_steps (entry.Flush who) s t is = subst (P (entry.Flush who) s) (some_same _ t is) (each.call who call.Flush s)
-  by_steps (entry.Reset who) s t is = subst (P (entry.Reset who) s) (some_same _ t is) (each.remove who removal.Reset s)
-  by_steps (entry.Close who) s t is = subst (P (entry.Close who) s) (some_same _ t is) (each.remove who removal.Close s)
-  by_steps (entry.Take who unit) s t is = let k = cond_is (may_take unit s.control) _ t is in subst (P (entry.Take who unit) s) (some_same _ t k.1) (each.take who unit s k.0)
+  by_steps (entry.Call who x) s t is =
+      let k = cond_is (may_call x s.control) (Some (call_step x s)) t is in
+      subst (P (entry.Call who x) s) (some_same _ t k.1) (call_each who x s k.0 (call_error x s.control) refl)
   by_steps (entry.Start epoch item) s t is = start_each s.control.work epoch item s t refl is
   by_steps (entry.Done epoch item moment o) s t is = done_each s.control.running epoch item moment o s t refl is
   by_steps entry.Turn s t is = turn_each s.control.tasks s t refl is

@@ -1,14 +1,12 @@
 // What calls, work items and kinds of codecs are to a codec's steps, case by case.
-ghost use Rattle.std.specs.Prelude.{◌≡◌, IfOk, None, option_map};
+ghost use Rattle.std.specs.Prelude.{◌≡◌, IfOk, OnErr, None, option_map, true};
 ghost use Rattle.codec_model.specs.Control.{is_coded, kind_of, held_of, is_decoder, no_opening};
 ghost use Rattle.codec_model.specs.Control as control;
-ghost use Rattle.codec_model.specs.Replay.{config_asked, entry_of, encode_entry, refused_encode, removal_entry};
-ghost use Rattle.codec_model.specs.Shown.{call_shows, exception_of, promise_of, shown_of};
+ghost use Rattle.codec_model.specs.Replay.{config_asked, is_cloned, refused_as, removes, sends};
+ghost use Rattle.codec_model.specs.Shown.{exception_of, promise_of, refused_shows, shown_of};
 
-use crate::entry::{
-    Call, Coded, Entry, Handed, HeldSound, Opening, Pair, Removal, Showing, Work, WorkKind,
-};
-use wc_base::{DomError, NoMemory, Samples, Who};
+use crate::entry::{Call, Coded, Handed, HeldSound, Opening, Pair, Showing, Work, WorkKind};
+use wc_base::{DomError, NoMemory, Samples};
 use wc_chunk::Chunk;
 use wc_config::{Config, Kind};
 
@@ -114,21 +112,65 @@ impl HeldSound {
     }
 }
 
-impl Call {
-    /// Its entry in a history. The config or the chunk is copied.
-    pub fn entry(&self, who: Who) -> Result<Entry, NoMemory>
-        ensures { IfOk result (λ e. e ≡ entry_of who self.now) }
+impl Handed {
+    /// What became of data that an encode is refused, which was detached or not.
+    pub fn of_refused(detached: bool) -> Handed
+        ensures { result ≡ refused_as detached }
+    {
+        if detached { Handed::Gone } else { Handed::Kept }
+    }
+
+    /// The same again, over the same shared bytes.
+    pub fn copy(&self) -> Result<Handed, NoMemory>
+        ensures ok { IfOk result (λ h. h ≡ self.now) }
+        ensures err { OnErr result (is_cloned self.now ≡ true) }
     {
         match self {
-            Call::Configure(config) => Ok(Entry::Configure {
-                who,
-                config: config.copy()?,
-            }),
-            Call::Decode(chunk) => Ok(Entry::Decode {
-                who,
-                chunk: chunk.copy()?,
-            }),
-            Call::Flush => Ok(Entry::Flush { who }),
+            Handed::Gone => Ok(Handed::Gone),
+            Handed::Kept => Ok(Handed::Kept),
+            Handed::Cloned(sound) => Ok(Handed::Cloned(sound.copy()?)),
+        }
+    }
+}
+
+impl Call {
+    /// Whether it sends a message where it is not refused. Such a call alone takes memory.
+    pub fn sends(&self) -> bool
+        ensures { result ≡ sends self.now }
+    {
+        match self {
+            Call::Configure(_) => true,
+            Call::Decode(_) => true,
+            Call::Encode(Handed::Gone) => false,
+            Call::Encode(Handed::Kept) => false,
+            Call::Encode(Handed::Cloned(_)) => true,
+            Call::Flush => true,
+            Call::Reset => false,
+            Call::Close => false,
+            Call::Take(_) => false,
+        }
+    }
+
+    /// Whether it removes all that is queued, where it is not refused.
+    pub fn removes(&self) -> bool
+        ensures { result ≡ removes self.now }
+    {
+        matches!(self, Call::Reset | Call::Close)
+    }
+
+    /// The same call again, over the same shared bytes. Memory is wanted only of a call that sends a message.
+    pub fn copy(&self) -> Result<Call, NoMemory>
+        ensures ok { IfOk result (λ x. x ≡ self.now) }
+        ensures err { OnErr result (sends self.now ≡ true) }
+    {
+        match self {
+            Call::Configure(config) => Ok(Call::Configure(config.copy()?)),
+            Call::Decode(chunk) => Ok(Call::Decode(chunk.copy()?)),
+            Call::Encode(handed) => Ok(Call::Encode(handed.copy()?)),
+            Call::Flush => Ok(Call::Flush),
+            Call::Reset => Ok(Call::Reset),
+            Call::Close => Ok(Call::Close),
+            Call::Take(unit) => Ok(Call::Take(*unit)),
         }
     }
 
@@ -137,70 +179,40 @@ impl Call {
         ensures { result ≡ promise_of self.now place }
     {
         match self {
+            Call::Flush => Some(place),
             Call::Configure(_) => None,
             Call::Decode(_) => None,
-            Call::Flush => Some(place),
+            Call::Encode(_) => None,
+            Call::Reset => None,
+            Call::Close => None,
+            Call::Take(_) => None,
         }
     }
-}
 
-impl Removal {
-    /// Its entry in a history.
-    pub fn entry(self, who: Who) -> Entry
-        ensures { result ≡ removal_entry who self }
+    /// Its exception, where it is refused with this error; a flush has none, since its promise is rejected.
+    pub fn exception(&self, error: Option<DomError>) -> Option<DomError>
+        ensures { result ≡ exception_of self.now error }
     {
         match self {
-            Removal::Reset => Entry::Reset { who },
-            Removal::Close => Entry::Close { who },
+            Call::Flush => None,
+            Call::Configure(_) => error,
+            Call::Decode(_) => error,
+            Call::Encode(_) => error,
+            Call::Reset => error,
+            Call::Close => error,
+            Call::Take(_) => error,
         }
-    }
-}
-
-impl Entry {
-    /// An encode of which the codec makes a clone.
-    pub fn of_encode(who: Who, sound: HeldSound) -> Entry
-        ensures { result ≡ encode_entry who sound }
-    {
-        let handed = Handed::Cloned(sound);
-        Entry::Encode { who, handed }
-    }
-
-    /// An encode that is refused, of detached data or not.
-    pub fn of_refused_encode(who: Who, detached: bool) -> Entry
-        ensures { result ≡ refused_encode who detached }
-    {
-        let handed = if detached { Handed::Gone } else { Handed::Kept };
-        Entry::Encode { who, handed }
-    }
-}
-
-/// The exception of a call that is refused with this error; a flush has none, since its promise is rejected.
-pub fn exception_of(call: &Call, error: Option<DomError>) -> Option<DomError>
-    ensures { result ≡ exception_of call.now error }
-{
-    match call {
-        Call::Configure(_) => error,
-        Call::Decode(_) => error,
-        Call::Flush => None,
     }
 }
 
 impl Showing {
-    /// What a call at this place shows, refused with this error or not.
-    pub fn of_call(call: &Call, place: u64, error: Option<DomError>) -> Showing
-        ensures { shown_of result
-            ≡ record { turn = None; events = call_shows call.now place error } }
+    /// What a call shows that is refused with this error, with the promise that it gives, if it gives one.
+    pub fn of_refused(promise: Option<u64>, error: DomError) -> Showing
+        ensures { shown_of result ≡ record { turn = None; events = refused_shows promise error } }
     {
-        match error {
-            None => Showing::Nothing,
-            Some(error) => match call {
-                Call::Configure(_) => Showing::Refusal(error),
-                Call::Decode(_) => Showing::Refusal(error),
-                Call::Flush => Showing::Rejection {
-                    promise: place,
-                    error,
-                },
-            },
+        match promise {
+            None => Showing::Refusal(error),
+            Some(promise) => Showing::Rejection { promise, error },
         }
     }
 }

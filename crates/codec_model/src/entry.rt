@@ -49,40 +49,28 @@ pub enum Handed {
     Cloned(HeldSound),
 }
 
+/// What a caller asks of a codec.
+#[derive(Debug, PartialEq, Drop)]
+pub enum Call {
+    Configure(Config),
+    Decode(Chunk),
+    Encode(Handed),
+    /// Its promise has the place of its entry as its name.
+    Flush,
+    Reset,
+    Close,
+    /// The caller takes the first output that was shown and not taken yet, of this number. Outputs are numbered from 0 as
+    /// they are shown.
+    Take(u64),
+}
+
 /// One event of a codec.
 #[derive(Debug, PartialEq, Drop)]
 pub enum Entry {
-    /// A caller's `configure`.
-    Configure {
+    /// A caller's call.
+    Call {
         who: Who,
-        config: Config,
-    },
-    /// A caller's `decode`.
-    Decode {
-        who: Who,
-        chunk: Chunk,
-    },
-    /// A caller's `encode`.
-    Encode {
-        who: Who,
-        handed: Handed,
-    },
-    /// A caller's `flush`, whose promise has the entry's place as its name.
-    Flush {
-        who: Who,
-    },
-    /// A caller's `reset`.
-    Reset {
-        who: Who,
-    },
-    /// A caller's `close`.
-    Close {
-        who: Who,
-    },
-    /// A caller took the first output that was shown and not taken yet. Outputs are numbered from 0 as they are shown.
-    Take {
-        who: Who,
-        unit: u64,
+        call: Call,
     },
     /// The front item of the work queue began.
     Start {
@@ -191,21 +179,6 @@ pub enum Ended {
 pub struct PromiseEnd {
     pub promise: u64,
     pub error: Option<DomError>,
-}
-
-/// What a caller asks a codec for, beside a reset or close.
-#[derive(Debug, PartialEq, Drop)]
-pub enum Call {
-    Configure(Config),
-    Decode(Chunk),
-    Flush,
-}
-
-/// What a caller asks of a codec to end all that it does.
-#[derive(Clone, Copy, Debug, PartialEq, Eq)]
-pub enum Removal {
-    Reset,
-    Close,
 }
 
 /// How a flush promise stands.

@@ -7,10 +7,10 @@ mod entry;
 mod facts;
 mod showing;
 
-pub use calls::{exception_of, is_decoder, is_key_chunk};
+pub use calls::{is_decoder, is_key_chunk};
 pub use entry::{
     Answer, Call, CodecState, Coded, Ended, Entry, Event, Handed, HeldSound, Item, Message,
-    Opening, Outcome, Pair, PromiseEnd, PromiseState, Removal, Running, Showing, Shown, Task,
+    Opening, Outcome, Pair, PromiseEnd, PromiseState, Running, Showing, Shown, Task,
     TurnWord, Work, WorkKind,
 };
 pub use facts::{never_stuck, references_are_held, steps_leave_fewer};

@@ -96,7 +96,7 @@ fn close_events(alloc: Global, error: DomError, promises: &[u64]) -> Result<List
 }
 
 fn rejection_events(alloc: Global, promises: &[u64]) -> Result<List<Event>, NoMemory>
-    ensures { IfOk result (λ l. l ≡ removal_shows None promises.now) }
+    ensures { IfOk result (λ l. l ≡ removal_shows promises.now) }
 {
     let mut events = Vec::with_capacity(alloc, promises.len())?;
     push_rejections(DomError::Abort, promises, &mut events)?;
@@ -104,16 +104,6 @@ fn rejection_events(alloc: Global, promises: &[u64]) -> Result<List<Event>, NoMe
 }
 
 impl Showing {
-    /// What a reset or close shows, refused with this error or made, with these promises pending.
-    pub fn of_removal(error: Option<DomError>, promises: List<u64>) -> Showing
-        ensures { shown_of result ≡ record { turn = None; events = removal_shows error promises } }
-    {
-        match error {
-            None => Showing::Removal(promises),
-            Some(error) => Showing::Refusal(error),
-        }
-    }
-
     /// Whether it is the turn that closed the codec.
     pub fn closes(&self) -> bool
         ensures { result ≡ closes self.now }

@@ -1,7 +1,8 @@
 -- Numbers in rising order, as some come and go.
 use Rattle.std.proofs.Common.{ℕ, ◌≡◌, ◌+◌, ◌≤◌, ◌<◌, not, Bool, true, false, eqb, eq-eqb, cond, List, [], ◌∷◌, ◌++◌, filter, refl, ap, arith}
 use Rattle.std.proofs.lemmas.Bool.Decides.{nat_tests}
-use Rattle.codec_queues.specs.Rising.{RisesFrom, IsRising}
+use Rattle.codec_model.specs.declared.entry.{Work.Work}
+use Rattle.codec_queues.specs.{Rising.RisesFrom, Rising.IsRising, Sent.promised}
 
 rises_next : (low : ℕ) (ns : List ℕ) (high : ℕ) → RisesFrom low ns high → RisesFrom low ns (high + 1)
 rises_next low [] high h = omega (arith, h)
@@ -46,6 +47,11 @@ rising_next ns high h = record { rises = rises_next 0 ns high h.rises }
 
 pub rising_push : (ns : List ℕ) (high : ℕ) → IsRising ns high → IsRising (ns ++ high ∷ []) (high + 1)
 rising_push ns high h = record { rises = rises_push 0 ns high h.rises }
+
+-- a promise that a message adds is the last
+pub rising_promised : (w : Work) (ns : List ℕ) (high : ℕ) → IsRising ns high → IsRising (promised w high ns) (high + 1)
+rising_promised Work.Flush ns high h = rising_push ns high h
+rising_promised w ns high h = rising_next ns high h
 
 pub rising_filter : (p : ℕ) (ns : List ℕ) (high : ℕ) → IsRising ns high → IsRising (filter (λ n. not (eqb n p)) ns) high
 rising_filter p ns high h = record { rises = rises_filter (λ n. not (eqb n p)) 0 ns high h.rises }

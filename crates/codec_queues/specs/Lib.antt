@@ -1,3 +1,4 @@
 pub mod Rising
 pub mod Labels
+pub mod Sent
 pub mod Kept

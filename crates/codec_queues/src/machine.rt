@@ -1,26 +1,26 @@
 // The queues of a codec.
-ghost use Rattle.std.specs.Prelude.{◌≡◌, ◌<◌, ◌≤◌, ◌^◌, ◌+◌, [], true, false, IsTrue, IsSome, is_some, OnOk, OnErr, OnSome, IfOk, IfNone, IfSome, None, option_map};
-ghost use Rattle.codec_model.specs.Replay.{call_error, after_call, removal_error, accepted, encode_error};
-ghost use Rattle.codec_model.specs.Control.{at_next_place, after_configure, after_decode, after_flush, after_encode, after_take, may_take, takes_front, process_front, process, start_item, after_start, after_done, after_turn, turn_closes, after_reset, after_close, after_removal, may_reclaim, opening_control, left};
-ghost use Rattle.codec_model.specs.Shown.{IsAnswer, exception_of as the_exception, refusal, call_shows, removal_shows, reclaim_shows, turn_shows, turn_word, closes};
+ghost use Rattle.std.specs.Prelude.{◌≡◌, ◌<◌, ◌≤◌, ◌^◌, ◌+◌, [], true, false, IsTrue, IsSome, OnOk, OnErr, OnSome, IfOk, IfNone, IfSome, None, option_map};
+ghost use Rattle.codec_model.specs.Replay.{call_error, after_call, removal_error, accepted, encode_error, may_call, sends};
+ghost use Rattle.codec_model.specs.Control.{at_next_place, after_take, takes_front, process_front, process, start_item, after_start, after_done, after_turn, turn_closes, after_reset, after_close, may_reclaim, opening_control, left};
+ghost use Rattle.codec_model.specs.Shown.{IsAnswer, exception_of, call_shows, accepted_shows, reclaim_shows, turn_shows, turn_word, closes, shown_of};
 ghost use Rattle.codec_queues.specs.Labels.{label_of};
+ghost use Rattle.codec_queues.specs.Sent.{sent};
 
 use crate::labels::{Queued, carry};
 use crate::queues::{
-    close_answer, halts, keep_dequeues, later, queue_end, remove_promise, reserve_places, room_for,
-    schedule_dequeue, turn_answer,
+    close_answer, halts, keep_dequeues, later, more_coded, promise_if, queue_end, remove_promise,
+    reserve_places, room_for, schedule_dequeue, turn_answer,
 };
 use codec_model::{
-    Answer, Call, CodecState, Coded, Ended, HeldSound, Item, Message, Opening, Removal, Running,
-    Showing, Task, Work, WorkKind, exception_of, is_decoder, is_key_chunk,
+    Answer, Call, CodecState, Coded, Ended, Handed, Item, Message, Opening, Running, Showing, Task,
+    Work, WorkKind, is_decoder, is_key_chunk,
 };
 use std::alloc::Global;
 use std::collections::VecDeque;
 use std::marker::Model;
 use std::mem;
 use wc_base::{DomError, List, NoMemory};
-use wc_chunk::Chunk;
-use wc_config::{AudioDecoderConfig, Config};
+use wc_config::AudioDecoderConfig;
 
 // How long a codec counts as active after its last item ended, in microseconds.
 const ACTIVITY: u64 = 10_000_000;
@@ -186,8 +186,9 @@ impl Machine {
         }
     }
 
-    /// The error with which a call is refused: `TypeErr` for a config that is not valid, `InvalidState` in a state
-    /// without the call, `Data` where a key chunk is required, which a video decoder finds by the bytes too.
+    /// The error with which a call is refused: `TypeErr` for a config that is not valid and for data that is detached,
+    /// `InvalidState` in a state without the call, `Data` where a key chunk is required, which a video decoder finds by the
+    /// bytes too.
     pub fn error_of(&self, call: &Call) -> Option<DomError>
         ensures { result ≡ call_error call.now self.now }
     {
@@ -210,11 +211,17 @@ impl Machine {
                 CodecState::Unconfigured => Some(DomError::InvalidState),
                 CodecState::Closed => Some(DomError::InvalidState),
             },
+            Call::Encode(Handed::Gone) => Some(DomError::TypeErr),
+            Call::Encode(Handed::Kept) => Some(DomError::InvalidState),
+            Call::Encode(Handed::Cloned(_)) => None,
             Call::Flush => match self.phase {
                 CodecState::Configured => None,
                 CodecState::Unconfigured => Some(DomError::InvalidState),
                 CodecState::Closed => Some(DomError::InvalidState),
             },
+            Call::Reset => self.removal_error(),
+            Call::Close => self.removal_error(),
+            Call::Take(_) => None,
         }
     }
 
@@ -230,6 +237,24 @@ impl Machine {
             CodecState::Configured => None,
             CodecState::Unconfigured => Some(DomError::InvalidState),
             CodecState::Closed => Some(DomError::InvalidState),
+        }
+    }
+
+    /// Whether a call can be made now, as it tells what became of an encode's data and which output is taken: a clone was
+    /// made exactly where the codec is configured, and the first output that was shown and not taken yet is taken.
+    pub fn may_call(&self, call: &Call) -> bool
+        ensures { result ≡ may_call call.now self.now }
+    {
+        match call {
+            Call::Encode(Handed::Gone) => true,
+            Call::Encode(Handed::Kept) => self.encode_error(false).is_some(),
+            Call::Encode(Handed::Cloned(_)) => self.encode_error(false).is_none(),
+            Call::Take(unit) => *unit == self.taken && (*unit as u128) < self.shown,
+            Call::Configure(_) => true,
+            Call::Decode(_) => true,
+            Call::Flush => true,
+            Call::Reset => true,
+            Call::Close => true,
         }
     }
 
@@ -302,11 +327,11 @@ impl Machine {
 
 #[tactic(auto, using(crate::proofs::Room::tasks_fit, crate::proofs::Room::tasks_weigh, crate::proofs::Room::running_weighs))]
 impl Machine {
-    /// Queues a configure message, and processes.
-    fn configure(&mut self, config: Config) -> Result<(), NoMemory>
+    /// Queues the message of a call, which changes these of the codec, and processes. Each later step that comes of it has
+    /// its place then.
+    fn send(&mut self, work: Work, phase: CodecState, key_required: bool) -> Result<(), NoMemory>
         requires { self.old.place + 1 < 2 ^ 64 }
-        ensures ok { OnOk result
-            (self.new ≡ after_configure self.old.place config (at_next_place self.old)) }
+        ensures ok { OnOk result (self.new ≡ sent work phase key_required self.old) }
         ensures left { left self.new ≤ left self.old + 7 }
         ensures err { OnErr result (self.new ≡ self.old) }
     {
@@ -321,213 +346,13 @@ impl Machine {
         self.room = room;
         let place = self.place;
         self.place += 1;
-        self.phase = CodecState::Configured;
-        self.key_required = is_decoder(self.opening.kind) || self.key_required;
-        self.messages.push_back_reserved(Message {
-            place,
-            work: Work::Configure(config),
-        });
+        self.phase = phase;
+        self.key_required = key_required;
+        self.size = more_coded(self.size, &work);
+        promise_if(&mut self.pending, &work, place);
+        self.messages.push_back_reserved(Message { place, work });
         self.process();
         Ok(())
-    }
-
-    /// Queues a coded message, and processes.
-    fn decode(&mut self, chunk: Chunk) -> Result<(), NoMemory>
-        requires { self.old.place + 1 < 2 ^ 64 }
-        ensures ok { OnOk result
-            (self.new ≡ after_decode self.old.place chunk (at_next_place self.old)) }
-        ensures left { left self.new ≤ left self.old + 7 }
-        ensures err { OnErr result (self.new ≡ self.old) }
-    {
-        let room = room_for(self.messages.len(), self.work.len(), self.tasks.len())?;
-        reserve_places(
-            &mut self.messages,
-            &mut self.pending,
-            &mut self.work,
-            &mut self.tasks,
-            room,
-        )?;
-        self.room = room;
-        let place = self.place;
-        self.place += 1;
-        self.key_required = false;
-        self.size += 1;
-        self.messages.push_back_reserved(Message {
-            place,
-            work: Work::Coded(Coded::Chunk(chunk)),
-        });
-        self.process();
-        Ok(())
-    }
-
-    /// Queues a flush message, and processes.
-    fn flush(&mut self) -> Result<(), NoMemory>
-        requires { self.old.place + 1 < 2 ^ 64 }
-        ensures ok { OnOk result (self.new ≡ after_flush self.old.place (at_next_place self.old)) }
-        ensures left { left self.new ≤ left self.old + 7 }
-        ensures err { OnErr result (self.new ≡ self.old) }
-    {
-        let room = room_for(self.messages.len(), self.work.len(), self.tasks.len())?;
-        reserve_places(
-            &mut self.messages,
-            &mut self.pending,
-            &mut self.work,
-            &mut self.tasks,
-            room,
-        )?;
-        self.room = room;
-        let place = self.place;
-        self.place += 1;
-        self.key_required = is_decoder(self.opening.kind) || self.key_required;
-        self.pending.push_back_reserved(place);
-        self.messages.push_back_reserved(Message {
-            place,
-            work: Work::Flush,
-        });
-        self.process();
-        Ok(())
-    }
-
-    /// Queues a message of samples that are encoded, and processes.
-    fn queue_sound(&mut self, sound: HeldSound) -> Result<(), NoMemory>
-        requires { self.old.place + 1 < 2 ^ 64 }
-        ensures ok { OnOk result
-            (self.new ≡ after_encode self.old.place sound (at_next_place self.old)) }
-        ensures left { left self.new ≤ left self.old + 7 }
-        ensures err { OnErr result (self.new ≡ self.old) }
-    {
-        let room = room_for(self.messages.len(), self.work.len(), self.tasks.len())?;
-        reserve_places(
-            &mut self.messages,
-            &mut self.pending,
-            &mut self.work,
-            &mut self.tasks,
-            room,
-        )?;
-        self.room = room;
-        let place = self.place;
-        self.place += 1;
-        self.size += 1;
-        self.messages.push_back_reserved(Message {
-            place,
-            work: Work::Coded(Coded::Sound(sound)),
-        });
-        self.process();
-        Ok(())
-    }
-}
-
-#[tactic(auto, using(crate::proofs::Rising::rising_next))]
-impl Machine {
-    /// A call that is not refused: its message is queued, and messages are processed.
-    fn accept(&mut self, call: Call) -> Result<(), NoMemory>
-        requires { self.old.place + 1 < 2 ^ 64 }
-        ensures ok { OnOk result (self.new ≡ accepted call self.old) }
-        ensures left { left self.new ≤ left self.old + 7 }
-        ensures err { OnErr result (self.new ≡ self.old) }
-    {
-        match call {
-            Call::Configure(config) => self.configure(config),
-            Call::Decode(chunk) => self.decode(chunk),
-            Call::Flush => self.flush(),
-        }
-    }
-
-    /// A call that is refused has its entry, and does nothing else.
-    fn refuse(&mut self)
-        requires { self.old.place + 1 < 2 ^ 64 }
-        ensures after { self.new ≡ at_next_place self.old }
-        ensures left { left self.new ≡ left self.old }
-    {
-        self.place += 1;
-    }
-
-    /// An encode that is not refused: its message is queued, and messages are processed, with a place for each later step
-    /// that comes of it. Want of memory leaves all as it was.
-    pub fn encode(&mut self, sound: HeldSound) -> Result<Answer, NoMemory>
-        requires place { self.old.place + 1 < 2 ^ 64 }
-        requires configured { encode_error false self.old ≡ None }
-        ensures ok { OnOk result
-            (self.new ≡ after_encode self.old.place sound (at_next_place self.old)) }
-        ensures answer { IfOk result
-            (IsAnswer self.old.place None (record { turn = None; events = [] })) }
-        ensures left { left self.new ≤ left self.old + 7 }
-        ensures err { OnErr result (self.new ≡ self.old) }
-    {
-        let place = self.place;
-        self.queue_sound(sound)?;
-        Ok(Answer {
-            place,
-            exception: None,
-            showing: Showing::Nothing,
-        })
-    }
-
-    /// A refused encode, of data that is detached or is not: it has its entry, and does nothing else. None exactly where it
-    /// is not refused; then nothing has changed.
-    pub fn refuse_encode(&mut self, detached: bool) -> Option<Answer>
-        requires { self.old.place + 1 < 2 ^ 64 }
-        ensures none { IfNone result (encode_error detached self.old ≡ None) }
-        ensures kept { IfNone result (self.new ≡ self.old) }
-        ensures some { OnSome result (IsSome (encode_error detached self.old)) }
-        ensures after { OnSome result (self.new ≡ at_next_place self.old) }
-        ensures answer { IfSome result (IsAnswer self.old.place (encode_error detached self.old)
-            (record { turn = None; events = refusal (encode_error detached self.old) })) }
-        ensures left { left self.new ≡ left self.old }
-    {
-        let error = self.encode_error(detached)?;
-        let place = self.place;
-        self.refuse();
-        Some(Answer {
-            place,
-            exception: Some(error),
-            showing: Showing::Refusal(error),
-        })
-    }
-
-    /// The first output that was shown and not taken yet is taken. The answer is its number; None exactly where there is no
-    /// such output, and then nothing has changed.
-    pub fn take(&mut self) -> Option<u64>
-        requires { self.old.place + 1 < 2 ^ 64 }
-        ensures may { is_some result ≡ may_take self.old.taken self.old }
-        ensures none { IfNone result (self.new ≡ self.old) }
-        ensures unit { IfSome result (λ n. n ≡ self.old.taken) }
-        ensures after { OnSome result (self.new ≡ after_take (at_next_place self.old)) }
-        ensures left { left self.new ≡ left self.old }
-    {
-        let unit = self.taken;
-        if (unit as u128) < self.shown {
-            self.taken += 1;
-            self.place += 1;
-            Some(unit)
-        } else {
-            None
-        }
-    }
-
-    /// A call, refused or else queued, with a place for each later step that comes of it. Want of memory leaves all as it
-    /// was.
-    pub fn call(&mut self, call: Call) -> Result<Answer, NoMemory>
-        requires { self.old.place + 1 < 2 ^ 64 }
-        ensures ok { OnOk result (self.new ≡ after_call (call_error call self.old) call self.old) }
-        ensures answer { IfOk result (IsAnswer self.old.place (the_exception call (call_error call self.old))
-            (record { turn = None; events = call_shows call self.old.place (call_error call self.old) })) }
-        ensures left { left self.new ≤ left self.old + 7 }
-        ensures err { OnErr result (self.new ≡ self.old) }
-    {
-        let place = self.place;
-        let error = self.error_of(&call);
-        let exception = exception_of(&call, error);
-        let showing = Showing::of_call(&call, place, error);
-        match error {
-            None => self.accept(call)?,
-            Some(_) => self.refuse(),
-        }
-        Ok(Answer {
-            place,
-            exception,
-            showing,
-        })
     }
 }
 
@@ -614,43 +439,6 @@ impl Machine {
         promises
     }
 
-    /// A reset or close that is not refused. The answer is the promises that were pending.
-    fn end_all(&mut self, removal: Removal) -> List<u64>
-        requires { self.old.epoch < self.old.place }
-        ensures promises { result ≡ self.old.pending }
-        ensures after { self.new ≡ after_removal removal self.old }
-        ensures left { left self.new ≤ left self.old }
-    {
-        match removal {
-            Removal::Reset => self.clear(),
-            Removal::Close => self.shut(),
-        }
-    }
-
-    /// A reset or close, refused or made.
-    pub fn remove(&mut self, removal: Removal) -> Answer
-        requires { self.old.place + 1 < 2 ^ 64 }
-        ensures made { IfNone (removal_error self.old)
-            (self.new ≡ after_removal removal (at_next_place self.old)) }
-        ensures refused { OnSome (removal_error self.old) (self.new ≡ at_next_place self.old) }
-        ensures answer { IsAnswer self.old.place (removal_error self.old)
-            (record { turn = None; events = removal_shows (removal_error self.old) self.old.pending }) result }
-        ensures left { left self.new ≤ left self.old }
-    {
-        let place = self.place;
-        let exception = self.removal_error();
-        self.place += 1;
-        let showing = match exception {
-            None => Showing::Removal(self.end_all(removal)),
-            Some(error) => Showing::Refusal(error),
-        };
-        Answer {
-            place,
-            exception,
-            showing,
-        }
-    }
-
     /// Reclaims the codec where that may be at a moment in microseconds, and else leaves it as it was.
     pub fn reclaim(&mut self, now: u64) -> Option<Answer>
         requires { self.old.place + 1 < 2 ^ 64 }
@@ -728,5 +516,145 @@ impl Machine {
                 Some(close_answer(place, error, promises))
             }
         }
+    }
+}
+
+#[tactic(auto, using(crate::proofs::Rising::rising_next))]
+impl Machine {
+    /// A call that is refused, or needs no more than its entry, has it and does nothing else.
+    fn enter(&mut self)
+        requires { self.old.place + 1 < 2 ^ 64 }
+        ensures after { self.new ≡ at_next_place self.old }
+        ensures left { left self.new ≡ left self.old }
+    {
+        self.place += 1;
+    }
+
+    /// The first output that was shown and not taken yet is taken.
+    fn take(&mut self)
+        requires { self.old.place + 1 < 2 ^ 64 }
+        ensures after { self.new ≡ after_take (at_next_place self.old) }
+        ensures left { left self.new ≡ left self.old }
+    {
+        self.taken += 1;
+        self.place += 1;
+    }
+
+    /// A call that is not refused and sends a message.
+    fn queue(&mut self, call: Call) -> Result<(), NoMemory>
+        requires place { self.old.place + 1 < 2 ^ 64 }
+        requires sends { sends call ≡ true }
+        ensures ok { OnOk result (self.new ≡ accepted call self.old) }
+        ensures left { left self.new ≤ left self.old + 7 }
+        ensures err { OnErr result (self.new ≡ self.old) }
+    {
+        let phase = self.phase;
+        let key_required = is_decoder(self.opening.kind) || self.key_required;
+        match call {
+            Call::Configure(config) => {
+                self.send(
+                    Work::Configure(config),
+                    CodecState::Configured,
+                    key_required,
+                )
+            }
+            Call::Decode(chunk) => self.send(Work::Coded(Coded::Chunk(chunk)), phase, false),
+            Call::Encode(Handed::Cloned(sound)) => {
+                self.send(Work::Coded(Coded::Sound(sound)), phase, self.key_required)
+            }
+            Call::Flush => self.send(Work::Flush, phase, key_required),
+            Call::Encode(Handed::Gone) => unreachable!(),
+            Call::Encode(Handed::Kept) => unreachable!(),
+            Call::Reset => unreachable!(),
+            Call::Close => unreachable!(),
+            Call::Take(_) => unreachable!(),
+        }
+    }
+
+    /// A call that is not refused and sends no message. The answer is what it shows.
+    fn make(&mut self, call: &Call) -> Showing
+        requires place { self.old.place + 1 < 2 ^ 64 }
+        requires sends { sends call.now ≡ false }
+        ensures after { self.new ≡ accepted call.now self.old }
+        ensures showing { shown_of result
+            ≡ record { turn = None; events = accepted_shows call.now self.old.pending } }
+        ensures left { left self.new ≤ left self.old }
+    {
+        match call {
+            Call::Reset => {
+                self.place += 1;
+                Showing::Removal(self.clear())
+            }
+            Call::Close => {
+                self.place += 1;
+                Showing::Removal(self.shut())
+            }
+            Call::Take(_) => {
+                self.take();
+                Showing::Nothing
+            }
+            Call::Encode(Handed::Gone) => {
+                self.enter();
+                Showing::Nothing
+            }
+            Call::Encode(Handed::Kept) => {
+                self.enter();
+                Showing::Nothing
+            }
+            Call::Encode(Handed::Cloned(_)) => unreachable!(),
+            Call::Configure(_) => unreachable!(),
+            Call::Decode(_) => unreachable!(),
+            Call::Flush => unreachable!(),
+        }
+    }
+
+    /// A call that is not refused. The answer is what it shows.
+    fn accept(&mut self, call: Call) -> Result<Showing, NoMemory>
+        requires { self.old.place + 1 < 2 ^ 64 }
+        ensures ok { OnOk result (self.new ≡ accepted call self.old) }
+        ensures showing { IfOk result (λ s. shown_of s
+            ≡ record { turn = None; events = accepted_shows call self.old.pending }) }
+        ensures left { left self.new ≤ left self.old + 7 }
+        ensures kept { sends call ≡ false → left self.new ≤ left self.old }
+        ensures cause { OnErr result (sends call ≡ true) }
+        ensures err { OnErr result (self.new ≡ self.old) }
+    {
+        if call.sends() {
+            self.queue(call)?;
+            Ok(Showing::Nothing)
+        } else {
+            Ok(self.make(&call))
+        }
+    }
+
+    /// A call: refused, made at once, or queued with a place for each later step that comes of it. Memory is wanted only of
+    /// a call that sends a message, and then all is as it was.
+    pub fn call(&mut self, call: Call) -> Result<Answer, NoMemory>
+        requires { self.old.place + 1 < 2 ^ 64 }
+        ensures ok { OnOk result (self.new ≡ after_call (call_error call self.old) call self.old) }
+        ensures answer { let error = call_error call self.old in
+            IfOk result (IsAnswer self.old.place (exception_of call error)
+            (record { turn = None; events = call_shows call self.old.place self.old.pending error })) }
+        ensures left { left self.new ≤ left self.old + 7 }
+        ensures kept { sends call ≡ false → left self.new ≤ left self.old }
+        ensures cause { OnErr result (sends call ≡ true) }
+        ensures err { OnErr result (self.new ≡ self.old) }
+    {
+        let place = self.place;
+        let error = self.error_of(&call);
+        let exception = call.exception(error);
+        let showing = match error {
+            None => self.accept(call)?,
+            Some(error) => {
+                let promise = call.promise(place);
+                self.enter();
+                Showing::of_refused(promise, error)
+            }
+        };
+        Ok(Answer {
+            place,
+            exception,
+            showing,
+        })
     }
 }

@@ -1,13 +1,14 @@
 // Plain work on the queues, apart from the codec that has them.
-ghost use Rattle.std.specs.Prelude.{ℕ, ◌≡◌, ◌<◌, ◌≤◌, ◌*◌, ◌+◌, ◌^◌, ◌++◌, ◌∷◌, [], max, length, count_by, filter, not, ◌==◌, ◌&&◌, ◌||◌, if◌then◌else◌, unwrap_or, OnOk, IfOk, None, Some, true, false};
+ghost use Rattle.std.specs.Prelude.{ℕ, ◌≡◌, ◌<◌, ◌≤◌, ◌*◌, ◌+◌, ◌^◌, ◌++◌, ◌∷◌, [], max, length, count_by, filter, not, ◌==◌, ◌&&◌, ◌||◌, if◌then◌else◌, unwrap_or, OnOk, IfOk, None, Some, true, false, cond};
 ghost use Rattle.std.specs.VecDeque.{deque_len, deque_capacity};
-ghost use Rattle.codec_model.specs.Control.{is_dequeue, is_desaturate, refusal_of, with_ran, with_desaturate, with_output, with_end, halts};
+ghost use Rattle.codec_model.specs.Control.{is_coded, is_dequeue, is_desaturate, refusal_of, with_ran, with_desaturate, with_output, with_end, halts};
 ghost use Rattle.codec_model.specs.Shown.{IsAnswer, word_of_task, task_shows, close_shows, closes};
 ghost use Rattle.codec_queues.specs.Rising.{IsRising};
+ghost use Rattle.codec_queues.specs.Sent.{promised};
 ghost use Rattle.codec_queues.specs.Labels.{first_config, label_of};
 
 use crate::labels::Queued;
-use codec_model::{Answer, Ended, Item, Message, Running, Showing, Task, TurnWord, WorkKind};
+use codec_model::{Answer, Ended, Item, Message, Running, Showing, Task, TurnWord, Work, WorkKind};
 use coder_api::Unit;
 use std::collections::VecDeque;
 use wc_base::{DomError, List, NoMemory};
@@ -254,4 +255,24 @@ pub fn reserve_places(
     work.reserve(room)?;
     tasks.reserve(room + 1)?;
     Ok(())
+}
+
+/// So many coded messages, with one more where this is one.
+pub fn more_coded(size: u64, work: &Work) -> u64
+    requires { size + 1 < 2 ^ 64 }
+    ensures { result ≡ size + cond (is_coded work.now) 1 0 }
+{
+    if work.is_coded() { size + 1 } else { size }
+}
+
+/// A flush has the place of its call as its promise.
+pub fn promise_if(pending: &mut VecDeque<u64>, work: &Work, place: u64)
+    requires { deque_len pending.old < deque_capacity pending.old }
+    ensures { pending.new.items ≡ promised work.now place pending.old.items }
+{
+    match work {
+        Work::Flush => pending.push_back_reserved(place),
+        Work::Configure(_) => {}
+        Work::Coded(_) => {}
+    }
 }

@@ -3,8 +3,9 @@
 //! them called before any is resolved. It prints how many outputs were shown, or how many promises resolved.
 #![tactic(auto)]
 
-ghost use Rattle.std.specs.Prelude.{◌≡◌, ℕ, Option, None, is_some, true};
+ghost use Rattle.std.specs.Prelude.{◌≡◌, None, is_some, true};
 ghost use Rattle.codec_model.specs.Replay.{State};
+ghost use Rattle.codec_core.specs.declared.out.Out.{Out};
 ghost use Rattle.codec_core.specs.Job.{IsJobOf, missing_id};
 ghost use Rattle.codec_core.specs.Owning.{IsOwnJob};
 
@@ -25,13 +26,13 @@ use wc_config::{AudioDecoderConfig, Config, Role};
 
 const WHO: Who = Who { caller: 0, step: 0 };
 
-fn configure(alloc: Global) -> Result<Call, NoMemory> {
-    Ok(Call::Configure(Config::AudioDecoder(AudioDecoderConfig {
+fn pcm(alloc: Global) -> Result<Config, NoMemory> {
+    Ok(Config::AudioDecoder(AudioDecoderConfig {
         codec: Text::of(String::from_str(alloc, "pcm-s16")?),
         rate: 8000,
         channels: 1,
         description: None,
-    })))
+    }))
 }
 
 // A chunk of one sample.
@@ -48,17 +49,10 @@ fn chunk(alloc: Global) -> Result<Chunk, NoMemory> {
     })
 }
 
-fn call(core: &mut Core<SampleCoder>, call: Call) -> Result<(), NoMemory> {
-    match core.call(WHO, call) {
-        Ok(_) => Ok(()),
-        Err(_) => Err(NoMemory),
-    }
-}
-
 // Gives a job the box that it lacks.
 fn with_box(mut job: Job<SampleCoder>) -> Job<SampleCoder>
     ensures stays { (s : State) → IsJobOf s job → IsJobOf s result }
-    ensures own { (at : Option ℕ) → IsOwnJob at job → IsOwnJob at result }
+    ensures own { (out : Out) → IsOwnJob out job → IsOwnJob out result }
     ensures empty { is_some (missing_id result) ≡ true → result.coder ≡ None }
 {
     if job.lacks().is_some() {
@@ -93,7 +87,7 @@ fn work(alloc: Global, core: &mut Core<SampleCoder>, moment: u64) {
 
 fn open(alloc: Global) -> Result<Core<SampleCoder>, NoMemory> {
     let mut core = Core::open(alloc, Kind::AudioDecoder, 4, 0)?;
-    call(&mut core, configure(alloc)?)?;
+    core.call(WHO, Call::Configure(pcm(alloc)?))?;
     work(alloc, &mut core, 0);
     core.turn();
     core.turn();
@@ -105,7 +99,7 @@ fn decodes(alloc: Global, count: u64) -> Result<usize, NoMemory> {
     let mut core = open(alloc)?;
     let chunk = chunk(alloc)?;
     for moment in 0..count {
-        call(&mut core, Call::Decode(chunk.copy()?))?;
+        core.call(WHO, Call::Decode(chunk.copy()?))?;
         work(alloc, &mut core, moment);
         core.turn();
         core.turn();
@@ -125,7 +119,7 @@ fn flushes(alloc: Global, count: u64) -> Result<usize, NoMemory> {
     let mut core = open(alloc)?;
     let (first, _, _) = core.look();
     for _flush in 0..count {
-        call(&mut core, Call::Flush)?;
+        core.call(WHO, Call::Flush)?;
     }
     for moment in 0..count {
         work(alloc, &mut core, moment);

@@ -1,14 +1,15 @@
-ghost use Rattle.std.specs.Prelude.{◌≡◌, ℕ, Option, None, is_some, true, unwrap_or, option_map};
+ghost use Rattle.std.specs.Prelude.{◌≡◌, None, is_some, true, unwrap_or, option_map};
 ghost use Rattle.coder_api.specs.Meaning.{Configured, Stopped, new_state};
 ghost use Rattle.wc_config.specs.declared.config.Config.TheVariants.{AudioDecoder};
 ghost use Rattle.wc_config.specs.declared.codec.Role.TheVariants as role;
 ghost use Rattle.wc_config.specs.declared.codec.CodecId.TheVariants as codec;
 ghost use Rattle.codec_model.specs.Replay.{State};
+ghost use Rattle.codec_core.specs.declared.out.Out.{Out};
 ghost use Rattle.codec_core.specs.Job.{IsJobOf, missing_id};
 ghost use Rattle.codec_core.specs.Owning.{IsOwnJob};
 
-use codec_core::{Core, Job, Reply};
-use codec_model::{Call, CodecState, Event, Kind, PromiseState, Removal, TurnWord, shown_list};
+use codec_core::{Core, Job};
+use codec_model::{Call, CodecState, Event, Kind, PromiseState, TurnWord, shown_list};
 use coder_api::{Coder, CoderFault, Input, SlotBox, Unit};
 use std::alloc::{AllocError, Global};
 use std::process::Abort;
@@ -78,19 +79,19 @@ impl Coder for Quiet {
     }
 }
 
-fn pcm(alloc: Global) -> Result<Call, AllocError> {
-    Ok(Call::Configure(Config::AudioDecoder(AudioDecoderConfig {
+fn pcm(alloc: Global) -> Result<Config, AllocError> {
+    Ok(Config::AudioDecoder(AudioDecoderConfig {
         codec: Text::of(String::from_str(alloc, "pcm-s16")?),
         rate: 8000,
         channels: 1,
         description: None,
-    })))
+    }))
 }
 
 // Gives a job the box that it lacks.
 fn with_box(mut job: Job<Quiet>) -> Job<Quiet>
     ensures stays { (s : State) → IsJobOf s job → IsJobOf s result }
-    ensures own { (at : Option ℕ) → IsOwnJob at job → IsOwnJob at result }
+    ensures own { (out : Out) → IsOwnJob out job → IsOwnJob out result }
     ensures empty { is_some (missing_id result) ≡ true → result.coder ≡ None }
 {
     if job.lacks().is_some() {
@@ -127,7 +128,9 @@ const WHO: Who = Who { caller: 0, step: 0 };
 
 // Configures and flushes.
 fn begins(rt: &impl Abort, alloc: Global, core: &mut Core<Quiet>) -> Result<(), Fail> {
-    let configured = core.call(WHO, pcm(alloc)?).expect(rt, "configure");
+    let configured = core
+        .call(WHO, Call::Configure(pcm(alloc)?))
+        .expect(rt, "configure");
     assert_eq!(rt; (configured.place, configured.promise), (0, None));
     let flushed = core.call(WHO, Call::Flush).expect(rt, "flush");
     assert_eq!(rt; (flushed.place, flushed.promise), (1, Some(1)));
@@ -148,10 +151,11 @@ fn runs(rt: &impl Abort, alloc: Global, core: &mut Core<Quiet>) {
 
 fn closes(rt: &impl Abort, core: &mut Core<Quiet>) {
     assert!(rt; core.spare() >= 2);
-    let closed = core.remove(WHO, Removal::Close);
-    assert!(rt; closed.is_ok_and(|removed| removed.coder.is_some()));
-    let again = core.remove(WHO, Removal::Reset);
-    assert!(rt; again.is_err_and(|refusal| refusal == (DomError::InvalidState, 10)));
+    let closed = core.call(WHO, Call::Close).expect(rt, "close");
+    assert!(rt; closed.exception.is_none() && closed.coder.is_some());
+    let again = core.call(WHO, Call::Reset).expect(rt, "reset");
+    let refusal = Some(DomError::InvalidState);
+    assert_eq!(rt; (again.place, again.exception), (10, refusal));
 }
 
 #[test]

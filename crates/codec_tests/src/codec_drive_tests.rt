@@ -1,6 +1,7 @@
 // A decoder's jobs, done with ample memory.
-ghost use Rattle.std.specs.Prelude.{◌≡◌, ℕ, Option, None, is_some, true};
+ghost use Rattle.std.specs.Prelude.{◌≡◌, None, is_some, true};
 ghost use Rattle.codec_model.specs.Replay.{State};
+ghost use Rattle.codec_core.specs.declared.out.Out.{Out};
 ghost use Rattle.codec_core.specs.Job.{IsJobOf, missing_id};
 ghost use Rattle.codec_core.specs.Owning.{IsOwnJob};
 
@@ -18,28 +19,28 @@ use wc_base::{By, Text, Who};
 use wc_chunk::Chunk;
 use wc_config::{AudioDecoderConfig, Config, Role};
 
-fn pcm(alloc: Global) -> Result<Call, Fail> {
-    Ok(Call::Configure(Config::AudioDecoder(AudioDecoderConfig {
+fn pcm(alloc: Global) -> Result<Config, Fail> {
+    Ok(Config::AudioDecoder(AudioDecoderConfig {
         codec: Text::of(String::from_str(alloc, "pcm-s16")?),
         rate: 8000,
         channels: 1,
         description: None,
-    })))
+    }))
 }
 
-fn chunk(alloc: Global, content: &[u8]) -> Result<Call, Fail> {
-    Ok(Call::Decode(Chunk {
+fn chunk(alloc: Global, content: &[u8]) -> Result<Chunk, Fail> {
+    Ok(Chunk {
         key: true,
         timestamp: 0,
         duration: None,
         bytes: Bytes::copy_from_slice(alloc, content)?,
-    }))
+    })
 }
 
 // Gives a job the box that it lacks.
 fn with_box(mut job: Job<SampleCoder>) -> Job<SampleCoder>
     ensures stays { (s : State) → IsJobOf s job → IsJobOf s result }
-    ensures own { (at : Option ℕ) → IsOwnJob at job → IsOwnJob at result }
+    ensures own { (out : Out) → IsOwnJob out job → IsOwnJob out result }
     ensures empty { is_some (missing_id result) ≡ true → result.coder ≡ None }
 {
     if job.lacks().is_some() {
@@ -79,8 +80,9 @@ fn work(alloc: Global, core: &mut Core<SampleCoder>, moment: u64) -> bool {
 // Configures and decodes, and does both jobs.
 fn decodes(rt: &impl Abort, alloc: Global, core: &mut Core<SampleCoder>) -> Result<(), Fail> {
     let who = Who { caller: 0, step: 0 };
-    core.call(who, pcm(alloc)?).expect(rt, "configure");
-    core.call(who, chunk(alloc, b"\x01\x00\x02\x00")?)
+    core.call(who, Call::Configure(pcm(alloc)?))
+        .expect(rt, "configure");
+    core.call(who, Call::Decode(chunk(alloc, b"\x01\x00\x02\x00")?))
         .expect(rt, "decode");
     assert!(rt; work(alloc, core, 1));
     assert!(rt; core.turn().is_some() && core.turn().is_some());

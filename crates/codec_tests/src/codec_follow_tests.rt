@@ -1,6 +1,6 @@
 use bytes::Bytes;
 use codec_follow::Follower;
-use codec_model::{Entry, Event, Kind, Opening, Outcome, Shown, TurnWord};
+use codec_model::{Call, Entry, Event, Kind, Opening, Outcome, Shown, TurnWord};
 use coder_api::Unit;
 use std::alloc::{AllocError, Global};
 use std::test::Fail;
@@ -15,32 +15,31 @@ const OPENING: Opening = Opening {
 
 const WHO: Who = Who { caller: 0, step: 0 };
 
+fn called(call: Call) -> Entry {
+    Entry::Call { who: WHO, call }
+}
+
 fn configure(alloc: Global, codec: &str) -> Result<Entry, AllocError> {
-    Ok(Entry::Configure {
-        who: WHO,
-        config: Config::AudioDecoder(AudioDecoderConfig {
-            codec: Text::of(String::from_str(alloc, codec)?),
-            rate: 8000,
-            channels: 1,
-            description: None,
-        }),
-    })
+    let config = Config::AudioDecoder(AudioDecoderConfig {
+        codec: Text::of(String::from_str(alloc, codec)?),
+        rate: 8000,
+        channels: 1,
+        description: None,
+    });
+    Ok(called(Call::Configure(config)))
 }
 
 fn decode(alloc: Global) -> Result<Entry, AllocError> {
-    Ok(Entry::Decode {
-        who: WHO,
-        chunk: Chunk {
-            key: true,
-            timestamp: 0,
-            duration: None,
-            bytes: Bytes::from_vec(vec![in alloc; 1, 0, 2, 0]?)?,
-        },
-    })
+    Ok(called(Call::Decode(Chunk {
+        key: true,
+        timestamp: 0,
+        duration: None,
+        bytes: Bytes::from_vec(vec![in alloc; 1, 0, 2, 0]?)?,
+    })))
 }
 
 fn flush() -> Entry {
-    Entry::Flush { who: WHO }
+    called(Call::Flush)
 }
 
 fn start(item: u64) -> Entry {
@@ -232,7 +231,7 @@ fn flush_of_raw_video_is_not_refused(rt: HostRuntime) -> Result<(), Fail> {
         aspect_width: None,
         aspect_height: None,
     });
-    let entries = refusing(alloc, Entry::Configure { who: WHO, config })?;
+    let entries = refusing(alloc, called(Call::Configure(config)))?;
     assert_eq!(rt;
         followed(alloc, entries.as_slice()).expect(&rt, "memory"),
         7

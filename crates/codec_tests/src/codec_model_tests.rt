@@ -1,12 +1,10 @@
 use bytes::Bytes;
-use codec_model::{Call, Entry, Handed, HeldSound, Pair};
+use codec_model::{Call, Handed, HeldSound, Pair};
 use std::alloc::Global;
 use std::test::Fail;
-use wc_base::{SampleFormat, Samples, SoundShape, Text, Who};
+use wc_base::{SampleFormat, Samples, SoundShape, Text};
 use wc_chunk::Chunk;
 use wc_config::{AudioDecoderConfig, Config};
-
-const WHO: Who = Who { caller: 1, step: 2 };
 
 fn config(alloc: Global) -> Result<Config, Fail> {
     Ok(Config::AudioDecoder(AudioDecoderConfig {
@@ -45,38 +43,32 @@ fn sound(alloc: Global) -> Result<HeldSound, Fail> {
     })
 }
 
-// Memory suffices for the call's entry, and it is this one.
-fn has_entry(call: &Call, entry: &Entry) -> bool {
-    match call.entry(WHO) {
-        Ok(made) => made == *entry,
+// Memory suffices for a copy of the call, and it is the same.
+fn is_copied(call: &Call) -> bool {
+    match call.copy() {
+        Ok(copy) => copy == *call,
         Err(_) => false,
     }
 }
 
 #[test]
-fn calls_have_their_entries(rt: HostRuntime) -> Result<(), Fail> {
+fn calls_are_copied(rt: HostRuntime) -> Result<(), Fail> {
     let alloc = rt.alloc();
-    let configured = Entry::Configure {
-        who: WHO,
-        config: config(alloc)?,
-    };
-    assert!(rt; has_entry(&Call::Configure(config(alloc)?), &configured));
-    let decoded = Entry::Decode {
-        who: WHO,
-        chunk: chunk(alloc)?,
-    };
-    assert!(rt; has_entry(&Call::Decode(chunk(alloc)?), &decoded));
-    assert!(rt; has_entry(&Call::Flush, &Entry::Flush { who: WHO }));
+    let calls = vec![in alloc;
+        Call::Configure(config(alloc)?),
+        Call::Decode(chunk(alloc)?),
+        Call::Encode(Handed::Cloned(sound(alloc)?)),
+        Call::Flush,
+    ]?;
+    for call in &calls {
+        assert!(rt; is_copied(call));
+    }
     Ok(())
 }
 
 #[test]
 fn samples_are_copied_with_their_numbers(rt: HostRuntime) -> Result<(), Fail> {
     let alloc = rt.alloc();
-    let again = sound(alloc)?.copy()?;
-    assert!(rt; again == sound(alloc)?);
-    let encoded = Entry::of_encode(WHO, again);
-    let handed = Handed::Cloned(sound(alloc)?);
-    assert!(rt; encoded == Entry::Encode { who: WHO, handed });
+    assert!(rt; sound(alloc)?.copy()? == sound(alloc)?);
     Ok(())
 }

@@ -8,18 +8,18 @@ use Rattle.std.proofs.lemmas.List.Sums.{sum_by-cons}
 use Rattle.std.proofs.lemmas.List.FromFn.{get_or-map-range_with_len}
 use Rattle.flac_definitions.specs.Bits.{bits_of}
 use Rattle.flac_definitions.specs.BitLaws.{length-bits_of}
-use Rattle.flac_plans.specs.Plans.{value_size, cost, part_of, best_parameter, part_bits, plan_parameters, plan_bits}
-use Rattle.flac_plans.specs.Spelling.{rice_bits, part_spelled, residual_bits}
-use Rattle.flac_subframes.specs.Fixed.{at, folded_residual}
-use Rattle.flac_subframes.specs.Spelling.{twos_complement, sample_bits, subframe_bits}
-use Rattle.flac_subframes.specs.Candidates.{candidate_bits, best_candidate}
-use Rattle.flac_subframes.specs.declared.candidate.Candidate.{Candidate}
-use Rattle.flac_subframes.specs.declared.candidate.Candidate.TheVariants.{Constant, Verbatim, Fixed}
+use Rattle.flac_definitions.specs.Plans.{value_size, cost, part_of, best_parameter, part_bits, plan_parameters, plan_bits}
+use Rattle.flac_definitions.specs.ResidualWriting.{rice_bits, part_spelled, residual_bits}
+use Rattle.flac_definitions.specs.FixedPredictors.{at, folded_residual}
+use Rattle.flac_definitions.specs.SubframeWriting.{twos_complement, sample_bits, subframe_bits}
+use Rattle.flac_definitions.specs.Candidates.{candidate_bits, best_candidate}
+use Rattle.flac_definitions.specs.declared.candidate.Candidate.{Candidate}
+use Rattle.flac_definitions.specs.declared.candidate.Candidate.TheVariants.{Constant, Verbatim, Fixed}
 use Rattle.flac_subframe_laws.specs.Laws.{IsCandidate}
-use Rattle.flac_blocks.specs.Modes.{channel_of, coded_depth, coded_of, channel_bits, mode_bits}
-use Rattle.flac_blocks.specs.Frames.{channel_spelled, channels_spelled}
-use Rattle.flac_blocks.specs.declared.mode.BlockFormat.{BlockFormat}
-use Rattle.flac_blocks.specs.declared.mode.ChannelMode.{ChannelMode}
+use Rattle.flac_definitions.specs.Modes.{channel_of, coded_depth, coded_of, channel_bits, mode_bits}
+use Rattle.flac_definitions.specs.FrameWriting.{channel_spelled, channels_spelled}
+use Rattle.flac_definitions.specs.declared.mode.BlockFormat.{BlockFormat}
+use Rattle.flac_definitions.specs.declared.mode.ChannelMode.{ChannelMode}
 
 length_each : {X : Type 0} (g : X → List Bool) (f : X → ℕ) (xs : List X) → ((x : X) → length (g x) ≡ f x) → length (flat_map g xs) ≡ sum_by f xs
 length_each g f [] h = refl

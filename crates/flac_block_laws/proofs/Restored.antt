@@ -8,12 +8,12 @@ use Rattle.std.proofs.lemmas.Int.{ints}
 use Rattle.std.proofs.lemmas.List.{take-append-drop}
 use Rattle.flac_definitions.specs.Prediction.{fits_depth, with_sample, one_after_other}
 use Rattle.flac_definitions.specs.Stereo.{right_of_side, left_of_side, twice_of, left_of_mid, right_of_mid, channel_by, channel_pair, plain_channels}
-use Rattle.flac_subframes.specs.Spelling.{HasDepth, HaveDepth}
-use Rattle.flac_blocks.specs.Modes.{pairwise, side_of, mid_of, coded_of, assignment_of, IsModeOf, IsFormat, IsBlock}
+use Rattle.flac_definitions.specs.SubframeWriting.{HasDepth, HaveDepth}
+use Rattle.flac_definitions.specs.Modes.{pairwise, side_of, mid_of, coded_of, assignment_of, IsModeOf, IsFormat, IsBlock}
 use Rattle.flac_blocks.specs.CodedLaws.{length-pairwise, left_length, right_length, take_fits, drop_fits}
-use Rattle.flac_blocks.specs.declared.mode.BlockFormat.{BlockFormat}
-use Rattle.flac_blocks.specs.declared.mode.ChannelMode.{ChannelMode}
-use Rattle.flac_blocks.specs.declared.mode.ChannelMode.TheVariants.{Independent, LeftSide, SideRight, MidSide}
+use Rattle.flac_definitions.specs.declared.mode.BlockFormat.{BlockFormat}
+use Rattle.flac_definitions.specs.declared.mode.ChannelMode.{ChannelMode}
+use Rattle.flac_definitions.specs.declared.mode.ChannelMode.TheVariants.{Independent, LeftSide, SideRight, MidSide}
 
 -- ---- samples that fit
 

@@ -1,6 +1,6 @@
 -- Frames that are written spell their samples.
 use Rattle.std.proofs.Common.{ℕ, zero, suc, ℤ, ◌≡◌, ◌<◌, ◌≤◌, ◌+◌, ◌-◌, ◌*◌, ◌^◌, ◌==◌, Bool, true, false, cond, List, [], ◌∷◌, ◌++◌, length, drop, Option, Some, None, inl, inr, refl, ap, sym, subst, ◌∙◌, arith, drop-drop, length-drop, length-take, append-nil}
-use Rattle.std.specs.List.{flat_map, range_with_len}
+use Rattle.std.specs.List.{flat_map, range_with_len, AllByRecursion}
 use Rattle.std.proofs.Math.Nat.{mul-le-mul_right}
 use Rattle.std.proofs.lemmas.Bool.{cases_lt, le-ltb, lt-ltb, eq-eqb}
 use Rattle.std.proofs.lemmas.List.{take-append-drop, drop_all}
@@ -15,23 +15,21 @@ use Rattle.flac_definitions.specs.Grammar.{InOrder, IsGiven}
 use Rattle.flac_definitions.specs.HeaderSpelling.{IsDescribed}
 use Rattle.flac_definitions.specs.SubframeSpelling.{IsSubframe, AreChannels}
 use Rattle.flac_definitions.specs.declared.header.FrameHeader.{FrameHeader}
-use Rattle.flac_write.specs.Header.{header_bits}
+use Rattle.flac_definitions.specs.HeaderWriting.{header_bits}
 use Rattle.flac_write.specs.HeaderLaws.{WrittenHeadersAreRead}
 use Rattle.flac_write.specs.SpellingLaws.{in_order, in_order_given}
 use Rattle.flac_subframe_laws.specs.Laws as subframe
-use Rattle.flac_blocks.specs.Modes.{channel_of, coded_of, coded_depth, assignment_of, channel_candidate, best_mode, IsModeOf, IsFormat, AreFitting}
-use Rattle.flac_blocks.specs.Frames.{header_of, channel_spelled, channels_spelled, padded, mode_frame_bits, frame_bits}
-use Rattle.flac_blocks.specs.CodedLaws.{coded_fits, coded_count, header_writable, depth_some}
-use Rattle.flac_blocks.specs.declared.mode.BlockFormat.{BlockFormat}
-use Rattle.flac_blocks.specs.declared.mode.ChannelMode.{ChannelMode}
-use Rattle.flac_blocks.specs.declared.mode.ChannelMode.TheVariants.{Independent, LeftSide, SideRight, MidSide}
+use Rattle.flac_definitions.specs.Modes.{channel_of, coded_of, coded_depth, assignment_of, channel_candidate, best_mode, IsModeOf, IsFormat, mode_bits, other_modes}
+use Rattle.flac_blocks.specs.Search.{AreFitting}
+use Rattle.flac_definitions.specs.FrameWriting.{header_of, channel_spelled, channels_spelled, padded, mode_frame_bits, frame_bits}
+use Rattle.flac_blocks.specs.CodedLaws.{coded_fits, coded_count, header_writable, depth_is, depth_some, shortest_at_most}
+use Rattle.flac_definitions.specs.declared.mode.BlockFormat.{BlockFormat}
+use Rattle.flac_definitions.specs.declared.mode.ChannelMode.{ChannelMode}
+use Rattle.flac_definitions.specs.declared.mode.ChannelMode.TheVariants.{Independent, LeftSide, SideRight, MidSide}
 use Rattle.flac_block_laws.specs.Laws.{Describes, CanBeWritten, WrittenFramesAreRead}
 use Rattle.flac_block_laws.proofs.Restored.{samples_back}
 use Rattle.flac_block_laws.proofs.Lengths.{subframe_length, channels_length}
-use Rattle.std.specs.List.{AllByRecursion}
-use Rattle.flac_subframes.specs.Candidates.{shorter, first_shortest}
-use Rattle.flac_blocks.specs.Modes.{mode_bits, other_modes}
-use Rattle.flac_blocks.specs.CodedLaws.{shortest_at_most}
+use Rattle.flac_definitions.specs.Candidates.{shorter, first_shortest}
 
 count_is : (f : BlockFormat) (m : ChannelMode) → IsFormat f → IsModeOf f m → channels_of (assignment_of f.channels m) ≡ f.channels
 count_is f Independent h o =
@@ -90,7 +88,9 @@ channels_from law f m block coded c (suc n) h e =
 -- ---- frames
 
 described_is : (info : StreamInfo) (f : BlockFormat) (m : ChannelMode) (block number : ℕ) → IsFormat f → IsModeOf f m → Describes info f → IsDescribed info (header_of f m block number)
-described_is info f m block number h o d = (d.rate, count_is f m h o ∙ d.channels, d.depth)
+described_is info f m block number h o d =
+    let few = depth_is f.depth h.depth in
+    (d.rate, count_is f m h o ∙ d.channels, d.depth, omega (arith, few.0, d.depth), omega (arith, few.1, d.depth))
 
 frame_spelled : subframe.WrittenSubframesAreRead → WrittenHeadersAreRead → (info : StreamInfo) (f : BlockFormat) (m : ChannelMode) (block number : ℕ) (xs : List ℤ) → CanBeWritten info f m block number xs
     → IsFrame info (header_of f m block number, xs) (mode_frame_bits f m block number (coded_of m block xs))

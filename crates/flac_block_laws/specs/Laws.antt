@@ -6,15 +6,15 @@ use Rattle.flac_definitions.specs.Bits.{bits_in}
 use Rattle.flac_definitions.specs.Frame.{frame_of}
 use Rattle.flac_definitions.specs.FrameSpelling.{IsFrame}
 use Rattle.flac_definitions.specs.Stereo.{plain_channels}
-use Rattle.flac_subframes.specs.Candidates.{candidate_bits}
-use Rattle.flac_subframes.specs.Spelling.{subframe_bits}
-use Rattle.flac_subframes.specs.declared.candidate.Candidate.{Candidate}
+use Rattle.flac_definitions.specs.Candidates.{candidate_bits}
+use Rattle.flac_definitions.specs.SubframeWriting.{subframe_bits}
+use Rattle.flac_definitions.specs.declared.candidate.Candidate.{Candidate}
 use Rattle.flac_subframe_laws.specs.Laws.{IsCandidate}
-use Rattle.flac_blocks.specs.declared.mode.ChannelMode.TheVariants.{Independent}
-use Rattle.flac_blocks.specs.Modes.{assignment_of, coded_of, mode_bits, other_modes, best_mode, IsModeOf, IsFormat, IsBlock}
-use Rattle.flac_blocks.specs.Frames.{header_of, channels_spelled, mode_frame_bits, frame_bits}
-use Rattle.flac_blocks.specs.declared.mode.BlockFormat.{BlockFormat}
-use Rattle.flac_blocks.specs.declared.mode.ChannelMode.{ChannelMode}
+use Rattle.flac_definitions.specs.declared.mode.ChannelMode.TheVariants.{Independent}
+use Rattle.flac_definitions.specs.Modes.{assignment_of, coded_of, mode_bits, other_modes, best_mode, IsModeOf, IsFormat, IsBlock}
+use Rattle.flac_definitions.specs.FrameWriting.{header_of, channels_spelled, mode_frame_bits, frame_bits}
+use Rattle.flac_definitions.specs.declared.mode.BlockFormat.{BlockFormat}
+use Rattle.flac_definitions.specs.declared.mode.ChannelMode.{ChannelMode}
 
 -- a stream's description that has a format's rate, channels and depth
 pub record Describes (info : StreamInfo) (f : BlockFormat) : Type 0 where

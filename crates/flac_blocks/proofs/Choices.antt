@@ -10,15 +10,16 @@ use Rattle.std.proofs.Math.Seq.{get_or-append_seam}
 use Rattle.std.proofs.lemmas.Bool.{cases_lt, and_parts, eqb-true, ltb-true}
 use Rattle.std.proofs.lemmas.Int.{ints}
 use Rattle.std.proofs.lemmas.List.{take-append-drop}
-use Rattle.flac_subframes.specs.Candidates.{shorter, first_shortest}
-use Rattle.flac_subframes.specs.Fixed.{AreWithin}
-use Rattle.flac_subframes.specs.Spelling.{HaveDepth}
-use Rattle.flac_subframes.specs.declared.candidate.Choice.{Choice}
-use Rattle.flac_blocks.specs.declared.mode.BlockFormat.{BlockFormat}
-use Rattle.flac_blocks.specs.declared.mode.ChannelMode.{ChannelMode}
-use Rattle.flac_blocks.specs.declared.mode.ChannelMode.TheVariants.{Independent, LeftSide, SideRight, MidSide}
-use Rattle.flac_blocks.specs.declared.mode.BlockChoice.{BlockChoice}
-use Rattle.flac_blocks.specs.Modes.{channel_of, pairwise, side_of, mid_of, coded_of, coded_depth, channel_bits, mode_bits, has_pairs, pair_modes, best_mode, IsFormat, IsBlock, AreChoices, IsBestBlock, first_of, second_of, pair_bits, IsBest}
+use Rattle.flac_definitions.specs.Candidates.{shorter, first_shortest}
+use Rattle.flac_subframes.specs.Search.{AreWithin}
+use Rattle.flac_definitions.specs.SubframeWriting.{HaveDepth}
+use Rattle.flac_definitions.specs.declared.candidate.Choice.{Choice}
+use Rattle.flac_definitions.specs.declared.mode.BlockFormat.{BlockFormat}
+use Rattle.flac_definitions.specs.declared.mode.ChannelMode.{ChannelMode}
+use Rattle.flac_definitions.specs.declared.mode.ChannelMode.TheVariants.{Independent, LeftSide, SideRight, MidSide}
+use Rattle.flac_definitions.specs.declared.mode.BlockChoice.{BlockChoice}
+use Rattle.flac_definitions.specs.Modes.{channel_of, pairwise, side_of, mid_of, coded_of, coded_depth, channel_bits, mode_bits, has_pairs, pair_modes, best_mode, IsFormat, IsBlock, AreChoices, IsBestBlock}
+use Rattle.flac_blocks.specs.Search.{first_of, second_of, pair_bits, IsBest}
 use Rattle.flac_blocks.specs.CodedLaws.{length-pairwise, left_length, right_length, channel_first, channel_second, first_each, second_each, first_depth, second_depth, plain_depth, depth_is, shortest_same, few_bits}
 
 -- ---- one choice more

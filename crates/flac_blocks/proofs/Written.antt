@@ -5,11 +5,12 @@ use Rattle.std.proofs.lemmas.List.Concat.{flat_map-append}
 use Rattle.flac_definitions.specs.Bits.{bits_of}
 use Rattle.flac_definitions.specs.BitLaws.{length-bits_of}
 use Rattle.flac_plans.specs.FitLaws.{range_more}
-use Rattle.flac_blocks.specs.declared.mode.BlockFormat.{BlockFormat}
-use Rattle.flac_blocks.specs.declared.mode.ChannelMode.{ChannelMode}
-use Rattle.flac_blocks.specs.declared.mode.BlockChoice.{BlockChoice}
-use Rattle.flac_blocks.specs.Modes.{coded_of, IsModeOf, IsFormat, IsBlock, IsBestBlock, AreFitting}
-use Rattle.flac_blocks.specs.Frames.{mode_frame_bits, frame_bits}
+use Rattle.flac_definitions.specs.declared.mode.BlockFormat.{BlockFormat}
+use Rattle.flac_definitions.specs.declared.mode.ChannelMode.{ChannelMode}
+use Rattle.flac_definitions.specs.declared.mode.BlockChoice.{BlockChoice}
+use Rattle.flac_definitions.specs.Modes.{coded_of, IsModeOf, IsFormat, IsBlock, IsBestBlock}
+use Rattle.flac_blocks.specs.Search.{AreFitting}
+use Rattle.flac_definitions.specs.FrameWriting.{mode_frame_bits, frame_bits}
 use Rattle.flac_blocks.specs.CodedLaws.{best_is_mode, coded_fits, coded_count}
 
 -- one more number behind, and its bits

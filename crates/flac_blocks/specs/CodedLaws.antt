@@ -7,18 +7,19 @@ use Rattle.std.proofs.lemmas.Bool.{ne_eqb, cases_lt, lt-ltb, le-ltb, eqb-true, a
 use Rattle.std.specs.List.{AllByRecursion, flat_map, range_with_len}
 use Rattle.std.proofs.lemmas.Int.{ints}
 use Rattle.std.proofs.lemmas.List.{take-append-drop, take_all, get_or-take, get_or-drop}
-use Rattle.flac_subframes.specs.Fixed.{at}
-use Rattle.flac_subframes.specs.Spelling.{HasDepth, HaveDepth}
-use Rattle.flac_subframes.specs.Candidates.{candidate_bits, best_candidate, shorter, first_shortest, shortest_of, is_constant, fixed_candidates}
-use Rattle.flac_subframes.specs.declared.candidate.Candidate.{Candidate}
-use Rattle.flac_subframes.specs.declared.candidate.Candidate.TheVariants.{Constant, Verbatim}
+use Rattle.flac_definitions.specs.FixedPredictors.{at}
+use Rattle.flac_definitions.specs.SubframeWriting.{HasDepth, HaveDepth}
+use Rattle.flac_definitions.specs.Candidates.{candidate_bits, best_candidate, shorter, first_shortest, shortest_of, is_constant, fixed_candidates}
+use Rattle.flac_definitions.specs.declared.candidate.Candidate.{Candidate}
+use Rattle.flac_definitions.specs.declared.candidate.Candidate.TheVariants.{Constant, Verbatim}
 use Rattle.flac_definitions.specs.Stereo.{channel_depth}
-use Rattle.flac_blocks.specs.declared.mode.BlockFormat.{BlockFormat}
-use Rattle.flac_blocks.specs.declared.mode.ChannelMode.{ChannelMode}
-use Rattle.flac_blocks.specs.declared.mode.ChannelMode.TheVariants.{Independent, LeftSide, SideRight, MidSide}
-use Rattle.flac_write.specs.Header.{IsWritable}
-use Rattle.flac_blocks.specs.Frames.{header_of}
-use Rattle.flac_blocks.specs.Modes.{channel_of, pairwise, side_of, mid_of, coded_of, assignment_of, coded_depth, mode_bits, has_pairs, pair_modes, best_mode, IsModeOf, IsFormat, IsBlock, first_of, second_of, AreFitting}
+use Rattle.flac_definitions.specs.declared.mode.BlockFormat.{BlockFormat}
+use Rattle.flac_definitions.specs.declared.mode.ChannelMode.{ChannelMode}
+use Rattle.flac_definitions.specs.declared.mode.ChannelMode.TheVariants.{Independent, LeftSide, SideRight, MidSide}
+use Rattle.flac_definitions.specs.HeaderWriting.{IsWritable}
+use Rattle.flac_definitions.specs.FrameWriting.{header_of}
+use Rattle.flac_definitions.specs.Modes.{channel_of, pairwise, side_of, mid_of, coded_of, assignment_of, coded_depth, mode_bits, has_pairs, pair_modes, best_mode, IsModeOf, IsFormat, IsBlock}
+use Rattle.flac_blocks.specs.Search.{first_of, second_of, AreFitting}
 
 pub pairwise_filled : (f : ℤ → ℤ → ℤ) (xs ys out : List ℤ) → length xs ≡ length ys → length out ≡ length xs → ((k : ℕ) → k < length xs → at out k ≡ f (at xs k) (at ys k)) → out ≡ pairwise f xs ys
 pairwise_filled f [] ys [] e l h = refl

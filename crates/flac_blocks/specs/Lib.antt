@@ -1,3 +1,2 @@
 pub mod CodedLaws
-pub mod Frames
-pub mod Modes
+pub mod Search

@@ -1,12 +1,13 @@
 // The mode of least length.
 ghost use Rattle.std.specs.Prelude.{◌≡◌, ◌<◌, ◌≤◌, ◌+◌, ◌*◌, ◌^◌, ◌++◌, [], ◌∷◌, true, false, length, take, drop, IfOk};
-ghost use Rattle.flac_subframes.specs.Candidates.{shorter, first_shortest};
-ghost use Rattle.flac_subframes.specs.Fixed.{AreWithin};
-ghost use Rattle.flac_blocks.specs.Modes.{channel_of, pairwise, side_of, mid_of, has_pairs, pair_modes, first_of, second_of, pair_bits, IsBest, IsFormat, IsBlock, AreChoices, IsBestBlock};
-ghost use Rattle.flac_blocks.specs.declared.mode.ChannelMode.TheVariants.{Independent};
+ghost use Rattle.flac_definitions.specs.Candidates.{shorter, first_shortest};
+ghost use Rattle.flac_subframes.specs.Search.{AreWithin};
+ghost use Rattle.flac_definitions.specs.Modes.{channel_of, pairwise, side_of, mid_of, has_pairs, pair_modes, IsFormat, IsBlock, AreChoices, IsBestBlock};
+ghost use Rattle.flac_blocks.specs.Search.{first_of, second_of, pair_bits, IsBest};
+ghost use Rattle.flac_definitions.specs.declared.mode.ChannelMode.TheVariants.{Independent};
 
-use crate::mode::{BlockChoice, BlockFormat, ChannelMode};
 use crate::pair::{mids, sides};
+use flac_definitions::{BlockChoice, BlockFormat, ChannelMode};
 use flac_subframes::{Choice, best_choice};
 use std::alloc::Global;
 use wc_base::NoMemory;

@@ -1,11 +1,12 @@
 // Frames of blocks, written.
 ghost use Rattle.std.specs.Prelude.{◌≡◌, ◌<◌, ◌≤◌, ◌+◌, ◌*◌, ◌%◌, ◌^◌, ◌++◌, length, IfOk, OnOk};
 ghost use Rattle.flac_definitions.specs.Bits.{bits_in};
-ghost use Rattle.flac_blocks.specs.Modes.{assignment_of, channel_of, coded_depth, channel_candidate, best_mode, IsFormat, IsBlock, IsModeOf, AreChoices, AreFitting};
-ghost use Rattle.flac_blocks.specs.Frames.{header_of, channel_spelled, channels_spelled, padded, summed, mode_frame_bits, frame_bits};
+ghost use Rattle.flac_definitions.specs.Modes.{assignment_of, channel_of, coded_depth, channel_candidate, best_mode, IsFormat, IsBlock, IsModeOf, AreChoices};
+ghost use Rattle.flac_blocks.specs.Search.{AreFitting};
+ghost use Rattle.flac_definitions.specs.FrameWriting.{header_of, channel_spelled, channels_spelled, padded, summed, mode_frame_bits, frame_bits};
 
 use crate::choice::{best_block, channel_of};
-use crate::mode::{BlockChoice, BlockFormat, ChannelMode};
+use flac_definitions::{BlockChoice, BlockFormat, ChannelMode};
 use flac_subframes::write_subframe;
 use flac_write::{BitWriter, FrameHeader, write_header};
 use std::alloc::Global;

@@ -3,11 +3,10 @@
 
 mod choice;
 mod frame;
-mod mode;
 mod pair;
 mod sound;
 
 pub use choice::best_block;
+pub use flac_definitions::{BlockChoice, BlockFormat, ChannelMode};
 pub use frame::encode_block;
-pub use mode::{BlockChoice, BlockFormat, ChannelMode};
 pub use sound::{have_depth, is_block, is_format};

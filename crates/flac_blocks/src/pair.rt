@@ -1,8 +1,9 @@
 // Two channels that may be coded as a pair.
 ghost use Rattle.std.specs.Prelude.{◌≡◌, ◌<◌, ◌^◌, pos, length, IfOk};
 ghost use Rattle.std.specs.Int.{int_div_euclid};
-ghost use Rattle.flac_subframes.specs.Fixed.{at, AreWithin};
-ghost use Rattle.flac_blocks.specs.Modes.{pairwise, side_of, mid_of};
+ghost use Rattle.flac_definitions.specs.FixedPredictors.{at};
+ghost use Rattle.flac_subframes.specs.Search.{AreWithin};
+ghost use Rattle.flac_definitions.specs.Modes.{pairwise, side_of, mid_of};
 
 use std::alloc::Global;
 use wc_base::NoMemory;

@@ -1,10 +1,10 @@
 // Whether a block can be written.
 ghost use Rattle.std.specs.Prelude.{◌≡◌, ◌≤◌, ◌-◌, ◌*◌, ◌^◌, ◌==◌, ◌||◌, ◌&&◌, ◌≤ℤ◌, pos, nat_le, true, false, length};
-ghost use Rattle.flac_subframes.specs.Fixed.{at};
-ghost use Rattle.flac_subframes.specs.Spelling.{HasDepth, HaveDepth};
-ghost use Rattle.flac_blocks.specs.Modes.{IsFormat, IsBlock};
+ghost use Rattle.flac_definitions.specs.FixedPredictors.{at};
+ghost use Rattle.flac_definitions.specs.SubframeWriting.{HasDepth, HaveDepth};
+ghost use Rattle.flac_definitions.specs.Modes.{IsFormat, IsBlock};
 
-use crate::mode::BlockFormat;
+use flac_definitions::BlockFormat;
 
 /// Whether blocks of a format can be written: 1 to 8 channels of 8, 16, 24 or 32 bits a sample, at a level of 0 to 8.
 pub fn is_format(format: BlockFormat) -> bool

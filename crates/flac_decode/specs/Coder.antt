@@ -1,5 +1,5 @@
 -- The decoder as contracts see it.
-use Rattle.std.specs.Prelude.{◌≡◌, ◌<◌, ◌≤◌, Option, Some, None, Result, Ok, Err, List, [], ◌∷◌}
+use Rattle.std.specs.Prelude.{◌≡◌, Option, Some, None, Result, Ok, Err, List, [], ◌∷◌}
 use Rattle.wc_config.specs.declared.codec.CoderId.{CoderId}
 use Rattle.wc_config.specs.declared.codec.CodecId.TheVariants as codec
 use Rattle.wc_config.specs.declared.codec.Role.TheVariants as role
@@ -30,10 +30,10 @@ abbrev pub answer_in : Setting → Command → Option (List unit.Unit)
 answer_in setting.Stopped x = None
 answer_in (setting.Decoder c info) x = audio_decoder_answer codec.Flac c x
 
--- what was read of the config's description, and the bounds of its depth
+-- what was read of the config's description
 abbrev pub IsDescribed : Setting → Type 0
 IsDescribed setting.Stopped = Unit {0}
-IsDescribed (setting.Decoder c info) = (described c.description ≡ Some info) × (0 < info.depth) × (info.depth ≤ 32)
+IsDescribed (setting.Decoder c info) = described c.description ≡ Some info
 
 -- what a chunk's decoding answered, by the definition's units
 abbrev pub GivesUnit : Option (List unit.Unit) → Result unit.Unit CoderFault → Type 0

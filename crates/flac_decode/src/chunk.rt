@@ -1,5 +1,5 @@
 // Chunks.
-ghost use Rattle.std.specs.Prelude.{◌≡◌, ◌<◌, ◌≤◌, Some};
+ghost use Rattle.std.specs.Prelude.{◌≡◌, Some};
 ghost use Rattle.codec_definitions.specs.Flac.{flac_units, flac_format};
 ghost use Rattle.coder_api.specs.Meaning.{Answers};
 ghost use Rattle.flac_decode.specs.Coder.{GivesUnit};
@@ -23,8 +23,6 @@ pub fn decode_chunk(
     samples: &mut Vec<i64>,
     out: &mut Vec<Unit>,
 ) -> Result<(), CoderFault>
-    requires some { 0 < info.now.depth }
-    requires depth { info.now.depth ≤ 32 }
     ensures { Answers (flac_units (Some info.now) chunk.now) result out.old.items out.new.items }
 {
     let unit = match unit_of(alloc, info, chunk, residual, samples) {
@@ -45,8 +43,6 @@ fn unit_of(
     residual: &mut Vec<i32>,
     samples: &mut Vec<i64>,
 ) -> Result<Unit, CoderFault>
-    requires some { 0 < info.now.depth }
-    requires depth { info.now.depth ≤ 32 }
     ensures { GivesUnit (flac_units (Some info.now) chunk.now) result }
 {
     let mut bytes = Vec::new(alloc);

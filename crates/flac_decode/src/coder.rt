@@ -1,5 +1,5 @@
 // The decoder.
-ghost use Rattle.std.specs.Prelude.{◌≡◌, ◌<◌, ◌≤◌, true, Some, IfOk};
+ghost use Rattle.std.specs.Prelude.{◌≡◌, true, Some, IfOk};
 ghost use Rattle.codec_definitions.specs.Flac.{described};
 ghost use Rattle.coder_api.specs.Meaning.{Stopped, Configured, new_state, Answers, command_of, serves};
 ghost use Rattle.flac_decode.specs.Coder.{decoder_id, answer_in, IsDescribed, meaning_of};
@@ -137,9 +137,7 @@ fn setting_of(config: &Config) -> Result<Setting, NoMemory>
 /// What the description of a config says that this decoder serves.
 fn stream_of(c: &AudioDecoderConfig) -> StreamInfo
     requires { serves decoder_id (config_of.AudioDecoder c.now) ≡ true }
-    ensures read { described c.now.description ≡ Some result }
-    ensures some { 0 < result.depth }
-    ensures depth { result.depth ≤ 32 }
+    ensures { described c.now.description ≡ Some result }
 {
     match &c.description {
         Some(d) => match read_streaminfo(d.as_slice()) {

@@ -1,5 +1,5 @@
 // Where a frame ends.
-ghost use Rattle.std.specs.Prelude.{◌≡◌, ◌<◌, ◌≤◌, ◌^◌, take, IfOk, length};
+ghost use Rattle.std.specs.Prelude.{◌≡◌, ◌<◌, ◌^◌, take, IfOk, length};
 ghost use Rattle.flac_definitions.specs.Bits.{start_of};
 ghost use Rattle.flac_definitions.specs.Frame.{frame_at};
 ghost use Rattle.flac_decode.specs.FrameEnd.{most, EndsAt, end_of};
@@ -16,8 +16,6 @@ use wc_config::StreamInfo;
 /// described (RFC 9639, section 9), and for no other number they are one. None exactly where no first bytes are a frame;
 /// `NoMemory` only where memory is wanted.
 pub fn frame_end(alloc: Global, bytes: &[u8], info: &StreamInfo) -> Result<Option<u64>, NoMemory>
-    requires some { 0 < info.now.depth }
-    requires depth { info.now.depth ≤ 32 }
     ensures { IfOk result (EndsAt info.now bytes.now) }
 {
     frames_are_spelled();
@@ -36,9 +34,7 @@ fn front(bytes: &[u8]) -> &[u8]
 }
 
 fn end_in(alloc: Global, bytes: &[u8], info: &StreamInfo) -> Result<Option<u64>, NoMemory>
-    requires few { length bytes.now < 2 ^ 61 }
-    requires some { 0 < info.now.depth }
-    requires depth { info.now.depth ≤ 32 }
+    requires { length bytes.now < 2 ^ 61 }
     ensures { IfOk result (λ o. o ≡ end_of (frame_at info.now (start_of bytes.now))) }
 {
     let mut residual = Vec::new(alloc);

@@ -31,8 +31,6 @@ pub fn decode_frame(
     samples: &mut Vec<i64>,
     out: &mut Vec<u8>,
 ) -> Result<u32, FrameFault>
-    requires some { 0 < info.now.depth }
-    requires depth { info.now.depth ≤ 32 }
     ensures decoded { Decodes (frame_of info.now bytes.now) result out.new.items }
     ensures size { IfOk result (λ block. length out.new.items ≡ block * (info.now.channels * sample_size info.now.depth)) }
     ensures kept { result ≡ Err FrameFault.Refused → out.new ≡ out.old }
@@ -54,8 +52,6 @@ fn read_whole_frame(
     residual: &mut Vec<i32>,
     samples: &mut Vec<i64>,
 ) -> Result<FrameHeader, FrameFault>
-    requires some { 0 < info.now.depth }
-    requires depth { info.now.depth ≤ 32 }
     ensures read { ReadsFrame (frame_of info.now bytes.now) result samples.new.items }
     ensures small { OnOk result (AreSmall 32 samples.new.items) }
     ensures length { IfOk result (λ h. length samples.new.items ≡ channels_of h.assignment * h.block) }
@@ -85,8 +81,6 @@ pub fn read_frame(
     residual: &mut Vec<i32>,
     samples: &mut Vec<i64>,
 ) -> Result<FrameHeader, FrameFault>
-    requires some { 0 < info.now.depth }
-    requires depth { info.now.depth ≤ 32 }
     ensures read { FillsFrame (frame_at info.now r.old) result r.new samples.new.items }
     ensures small { OnOk result (AreSmall 32 samples.new.items) }
     ensures length { IfOk result (λ h. length samples.new.items ≡ channels_of h.assignment * h.block) }

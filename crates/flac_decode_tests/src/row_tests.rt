@@ -51,8 +51,6 @@ pub(crate) fn decoded(
     frame: &[u8],
     info: &StreamInfo,
 ) -> Result<Option<(u32, Vec<u8>)>, NoMemory>
-    requires some { 0 < info.now.depth }
-    requires depth { info.now.depth ≤ 32 }
 {
     let mut residual = Vec::new(alloc);
     let mut samples = Vec::new(alloc);

@@ -16,6 +16,10 @@ number_of (b ∷ bs) = (if b then 2 ^ length bs else 0) + number_of bs
 unfoldable pub bits_in : List ℕ → List Bool
 bits_in bytes = flat_map (bits_of 8) bytes
 
+-- how many bits lack to a byte
+abbrev pub bits_to_byte : ℕ → ℕ
+bits_to_byte n = (8 - n % 8) % 8
+
 -- where a reader stands: bits up to `at` were read
 pub record Place : Type 0 where
   pub bytes : List ℕ

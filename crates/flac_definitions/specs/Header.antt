@@ -1,6 +1,6 @@
 -- A frame's header (RFC 9639, section 9.1), as it is read: each reader gives a value and the place behind it, or the first
 -- fault in reading order.
-use Rattle.std.specs.Prelude.{ℕ, zero, suc, ◌+◌, ◌-◌, ◌*◌, ◌/◌, ◌%◌, ◌==◌, nat_lt, Bool, not, List, take, drop, Result, Ok, Err, if◌then◌else◌}
+use Rattle.std.specs.Prelude.{ℕ, zero, suc, ◌+◌, ◌-◌, ◌*◌, ◌/◌, ◌%◌, ◌==◌, ◌&&◌, nat_lt, nat_le, Bool, not, List, take, drop, Result, Ok, Err, if◌then◌else◌}
 use Rattle.flac_definitions.specs.Bits.{Place, number_at}
 use Rattle.flac_definitions.specs.Results.{◌>>=◌, or_fault}
 use Rattle.flac_definitions.specs.Sums.{crc8_of}
@@ -120,13 +120,22 @@ header_sum_at start p = field_at 8 p >>= λ kept.
     let counted = crc8_of (bytes_between p.bytes start p.at) in
     if kept.0 == counted then Ok (tt, kept.1) else Err (fault.HeaderSum kept.0 counted)
 
--- a header, if it is one of the stream that is described (our choice)
+-- the depths that a description can say (section 8.2)
+abbrev pub is_stream_depth : ℕ → Bool
+is_stream_depth n = nat_le 1 n && nat_le n 32
+
+-- a header, if it is one of the stream that is described; a description with another depth describes none (our choice)
 abbrev pub if_described : StreamInfo → FrameHeader × Place → Result (FrameHeader × Place) HeaderFault
 if_described info h =
     if not (h.0.rate == info.rate) then Err (fault.Differs which.Rate)
     else if not (channels_of h.0.assignment == info.channels) then Err (fault.Differs which.Channels)
-    else if not (h.0.depth == info.depth) then Err (fault.Differs which.Depth)
+    else if not (is_stream_depth info.depth && (h.0.depth == info.depth)) then Err (fault.Differs which.Depth)
     else Ok h
+
+-- the header that the codes, the coded number, the block size and the rate make
+abbrev pub header_with : StreamInfo → HeaderCodes → ℕ → ℕ → ℕ → FrameHeader
+header_with info codes number block rate =
+    record { block = block; rate = rate; assignment = codes.assignment; depth = depth_of info.depth codes.depth; number = number }
 
 -- a header of a described stream
 unfoldable pub header_at : StreamInfo → Place → Result (FrameHeader × Place) HeaderFault
@@ -136,4 +145,4 @@ header_at info p = do
   block ← block_size_at codes.0.block number.1
   rate ← sample_rate_at info.rate codes.0.rate block.1
   sum ← header_sum_at p.at rate.1
-  if_described info (record { block = block.0; rate = rate.0; assignment = codes.0.assignment; depth = depth_of info.depth codes.0.depth; number = number.0 }, sum.1)
+  if_described info (header_with info codes.0 number.0 block.0 rate.0, sum.1)

@@ -1,8 +1,8 @@
 -- How frame headers are spelled (RFC 9639, section 9.1).
-use Rattle.std.specs.Prelude.{ℕ, zero, suc, ◌≡◌, ◌+◌, ◌-◌, ◌*◌, ◌/◌, ◌%◌, ◌==◌, nat_lt, Bool, List, ◌++◌, length, Some, Ok}
+use Rattle.std.specs.Prelude.{ℕ, zero, suc, ◌≡◌, ◌≤◌, ◌+◌, ◌-◌, ◌*◌, ◌/◌, ◌%◌, ◌==◌, nat_lt, Bool, List, ◌++◌, length, Some, Ok}
 use Rattle.flac_definitions.specs.Bits.{Place, forward, bits_of, Begins, start_of}
 use Rattle.flac_definitions.specs.Sums.{bits_sum}
-use Rattle.flac_definitions.specs.Header.{is_block_size_code, is_long_block_size, is_sample_rate_code, is_channel_code, is_depth_code, common_block_size, common_sample_rate, depth_of, channels_of, header_at}
+use Rattle.flac_definitions.specs.Header.{is_block_size_code, is_long_block_size, is_sample_rate_code, is_channel_code, is_depth_code, common_block_size, common_sample_rate, channels_of, header_with, header_at}
 use Rattle.flac_definitions.specs.Grammar.{IsNumber, IsGiven, IsNothing, InOrder, Either, Found}
 use Rattle.flac_definitions.specs.declared.header.FrameHeader.{FrameHeader}
 use Rattle.flac_definitions.specs.declared.header.HeaderCodes.{HeaderCodes}
@@ -58,11 +58,12 @@ IsSampleRate described code =
 abbrev pub IsFront : StreamInfo → FrameHeader → List Bool → Type 0
 IsFront info =
     InOrder AreCodes (λ codes. InOrder IsCodedNumber (λ number. InOrder (IsBlockSize codes.block) (λ block. InOrder (IsSampleRate info.rate codes.rate) (λ rate.
-    IsGiven (Some (record { block = block; rate = rate; assignment = codes.assignment; depth = depth_of info.depth codes.depth; number = number }))))))
+    IsGiven (Some (header_with info codes number block rate))))))
 
--- what the description says of a header
+-- what the description says of a header: its own rate, channels and depth, which is 1 to 32 (our choice)
 abbrev pub IsDescribed : StreamInfo → FrameHeader → Type 0
-IsDescribed info h = (h.rate ≡ info.rate) × (channels_of h.assignment ≡ info.channels) × (h.depth ≡ info.depth)
+IsDescribed info h =
+    (h.rate ≡ info.rate) × (channels_of h.assignment ≡ info.channels) × (h.depth ≡ info.depth) × (1 ≤ info.depth) × (info.depth ≤ 32)
 
 -- a header: its fields, and the sum of their bits (section 9.1.8)
 pub record IsHeader (info : StreamInfo) (h : FrameHeader) (bits : List Bool) : Type 0 where

@@ -8,7 +8,7 @@ use Rattle.flac_definitions.specs.BitLaws.{IsBytes, bits_of-number_of, length-bi
 use Rattle.flac_write.specs.WriterLaws.{bits_split, bits_mod}
 use Rattle.wc_config.specs.Streams.{big_endian, stream_info_of, is_usable, streaminfo_of}
 use Rattle.wc_config.specs.declared.stream_info.StreamInfo.{StreamInfo}
-use Rattle.flac_description.specs.Descriptions.{CanBeWritten, field_bits, description_bits}
+use Rattle.flac_definitions.specs.Descriptions.{CanBeWritten, field_bits, description_bits}
 use Rattle.flac_description.specs.Laws.{Spells}
 use Rattle.flac_description.proofs.Lists.{take_fits, drop_fits, spelled_number, parts, bits_of_parts, regroup}
 

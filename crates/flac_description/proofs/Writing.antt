@@ -8,7 +8,7 @@ use Rattle.flac_definitions.specs.Bits.{bits_of, bits_in}
 use Rattle.flac_definitions.specs.BitLaws.{bits_in-append}
 use Rattle.flac_write.specs.WriterLaws.{bits_cat, bits_split, bits_mod, bits_none}
 use Rattle.wc_config.specs.declared.stream_info.StreamInfo.{StreamInfo}
-use Rattle.flac_description.specs.Descriptions.{head_bits, description_bits}
+use Rattle.flac_definitions.specs.Descriptions.{head_bits, description_bits}
 
 byte_power : (k : ℕ) → 256 ^ k ≡ 2 ^ (8 * k)
 byte_power zero = refl

@@ -4,7 +4,7 @@ use Rattle.flac_definitions.specs.Bits.{bits_in}
 use Rattle.flac_definitions.specs.BitLaws.{IsBytes}
 use Rattle.wc_config.specs.Streams.{is_usable, streaminfo_of}
 use Rattle.wc_config.specs.declared.stream_info.StreamInfo.{StreamInfo}
-use Rattle.flac_description.specs.Descriptions.{CanBeWritten, description_bits}
+use Rattle.flac_definitions.specs.Descriptions.{CanBeWritten, description_bits}
 
 -- bytes spell a description in their first 42, whose sum has 16 bytes
 pub record Spells (bytes : List ℕ) (info : StreamInfo) : Type 0 where

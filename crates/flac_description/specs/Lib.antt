@@ -1,2 +1,1 @@
-pub mod Descriptions
 pub mod Laws

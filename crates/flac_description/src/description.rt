@@ -2,7 +2,7 @@
 ghost use Rattle.std.specs.Prelude.{◌≡◌, ◌≤◌, ◌<◌, ◌+◌, ◌-◌, ◌*◌, ◌++◌, length, take, true, false, Some};
 ghost use Rattle.flac_definitions.specs.Bits.{bits_of, bits_in};
 ghost use Rattle.wc_config.specs.Streams.{is_usable, streaminfo_of};
-ghost use Rattle.flac_description.specs.Descriptions.{CanBeWritten, description_bits};
+ghost use Rattle.flac_definitions.specs.Descriptions.{CanBeWritten, description_bits};
 
 use wc_config::StreamInfo;
 

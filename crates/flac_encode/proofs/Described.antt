@@ -6,7 +6,7 @@ use Rattle.flac_definitions.specs.Bits.{bits_in}
 use Rattle.wc_config.specs.Configs.{audio_codec, is_depth, is_flac}
 use Rattle.wc_config.specs.declared.config.AudioEncoderConfig.{AudioEncoderConfig}
 use Rattle.wc_config.specs.declared.stream_info.StreamInfo.{StreamInfo}
-use Rattle.flac_description.specs.Descriptions.{CanBeWritten, description_bits}
+use Rattle.flac_definitions.specs.Descriptions.{CanBeWritten, description_bits}
 use Rattle.codec_definitions.specs.FlacCode.{bytes_with, stream_of, stream_description}
 use Rattle.coder_api.specs.Meaning.{description_for}
 use Rattle.flac_encode.specs.Steps.{IsRanged}

@@ -10,15 +10,15 @@ use Rattle.std.proofs.Math.Seq.{take-append_seam}
 use Rattle.flac_definitions.specs.Bits.{bits_of, number_of, bits_in}
 use Rattle.flac_definitions.specs.BitLaws.{IsBytes, length-bits_of, length-bits_in, number_of-bits_of, drop-bits_in}
 use Rattle.wc_config.specs.declared.config.AudioEncoderConfig.{AudioEncoderConfig}
-use Rattle.flac_blocks.specs.Modes.{IsBlock}
-use Rattle.flac_blocks.specs.Frames.{frame_bits}
-use Rattle.flac_blocks.specs.declared.mode.BlockFormat.{BlockFormat}
+use Rattle.flac_definitions.specs.Modes.{IsBlock}
+use Rattle.flac_definitions.specs.FrameWriting.{frame_bits}
+use Rattle.flac_definitions.specs.declared.mode.BlockFormat.{BlockFormat}
 use Rattle.codec_definitions.specs.FlacCode.{bytes_with, channel_apart, apart, format_of, flac_code}
 use Rattle.flac_encode.specs.Steps.{IsRanged}
 use Rattle.flac_encode.proofs.Steps.{length_rows}
 use Rattle.std.proofs.Math.Nat.{mul-le-mul_left, div-add-mod}
 use Rattle.flac_plans.specs.FitLaws.{range_more}
-use Rattle.flac_subframes.specs.Spelling.{HasDepth, HaveDepth}
+use Rattle.flac_definitions.specs.SubframeWriting.{HasDepth, HaveDepth}
 
 -- one more number behind, and what it gives
 pub one_more : {A : Type 0} (f : ℕ → List A) (n : ℕ) → flat_map f (range_with_len 0 (n + 1)) ≡ flat_map f (range_with_len 0 n) ++ f n

@@ -9,7 +9,7 @@ use Rattle.codec_definitions.specs.declared.command.Command.{Command}
 use Rattle.codec_definitions.specs.FlacCode.{block_samples}
 use Rattle.codec_definitions.specs.FlacEncoder.{Kept}
 use Rattle.coder_api.specs.Meaning.{Meaning, Stopped, Configured, SamplesKept}
-use Rattle.flac_subframes.specs.Spelling.{HaveDepth}
+use Rattle.flac_definitions.specs.SubframeWriting.{HaveDepth}
 use Rattle.flac_encode.specs.declared.encoder.Encoder.{Encoder}
 use Rattle.flac_encode.specs.declared.coder.Setting.{Setting}
 use Rattle.flac_encode.specs.declared.coder.Setting.TheVariants as setting

@@ -2,10 +2,10 @@
 ghost use Rattle.std.specs.Prelude.{◌≡◌, ◌<◌, ◌≤◌, ◌+◌, ◌*◌, ◌/◌, ◌%◌, ◌^◌, ◌++◌, true, length, map, IfOk, OnOk};
 ghost use Rattle.std.specs.List.{range_with_len, flat_map};
 ghost use Rattle.flac_definitions.specs.Bits.{bits_in};
-ghost use Rattle.flac_subframes.specs.Fixed.{at};
-ghost use Rattle.flac_subframes.specs.Spelling.{HasDepth, HaveDepth};
-ghost use Rattle.flac_blocks.specs.Modes.{IsFormat, IsBlock};
-ghost use Rattle.flac_blocks.specs.Frames.{frame_bits};
+ghost use Rattle.flac_definitions.specs.FixedPredictors.{at};
+ghost use Rattle.flac_definitions.specs.SubframeWriting.{HasDepth, HaveDepth};
+ghost use Rattle.flac_definitions.specs.Modes.{IsFormat, IsBlock};
+ghost use Rattle.flac_definitions.specs.FrameWriting.{frame_bits};
 ghost use Rattle.codec_definitions.specs.FlacCode.{format_of, channel_apart, apart, bytes_with, flac_code};
 ghost use Rattle.flac_encode.specs.Steps.{IsRanged};
 

@@ -2,7 +2,7 @@
 ghost use Rattle.std.specs.Prelude.{◌≡◌, IfOk};
 ghost use Rattle.codec_definitions.specs.FlacCode.{stream_of, stream_description};
 ghost use Rattle.coder_api.specs.Meaning.{description_for};
-ghost use Rattle.flac_description.specs.Descriptions.{CanBeWritten};
+ghost use Rattle.flac_definitions.specs.Descriptions.{CanBeWritten};
 ghost use Rattle.flac_encode.specs.Steps.{IsRanged};
 
 use crate::block::bytes_are_of_bits;

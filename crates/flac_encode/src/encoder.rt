@@ -1,11 +1,10 @@
 // Blocks, and the rest of samples between them.
-ghost use Rattle.std.specs.Prelude.{◌≡◌, ◌<◌, ◌≤◌, ◌+◌, ◌-◌, ◌*◌, ◌/◌, ◌%◌, ◌^◌, ◌++◌, ◌∷◌, [], true, length, map, drop, IfOk, OnOk, OnErr};
+ghost use Rattle.std.specs.Prelude.{◌≡◌, ◌<◌, ◌≤◌, ◌+◌, ◌-◌, ◌*◌, ◌/◌, ◌%◌, ◌^◌, ◌++◌, ◌∷◌, [], true, length, map, drop, IfOk, OnOk, OnErr, pos, ◌+ℤ◌};
 ghost use Rattle.std.specs.List.{range_with_len};
 ghost use Rattle.codec_definitions.specs.Pcm.{is_whole};
-ghost use Rattle.flac_subframes.specs.Spelling.{HaveDepth};
+ghost use Rattle.flac_definitions.specs.SubframeWriting.{HaveDepth};
 ghost use Rattle.codec_definitions.specs.FlacCode.{block_frames, block_samples};
 ghost use Rattle.codec_definitions.specs.FlacEncoder.{block_at, block_unit, values_in, unit_of_rest, nothing_kept};
-ghost use Rattle.std.specs.Prelude.{pos, ◌+ℤ◌};
 ghost use Rattle.std.specs.Int.{w64, saturate_signed};
 ghost use Rattle.coder_api.specs.Meaning.{Answers};
 ghost use Rattle.codec_definitions.specs.declared.command.Command.TheVariants as command;

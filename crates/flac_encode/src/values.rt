@@ -4,7 +4,7 @@ ghost use Rattle.std.specs.List.{range_with_len};
 ghost use Rattle.wc_config.specs.Configs.{is_depth};
 ghost use Rattle.codec_definitions.specs.Pcm.{format_size, place_of, is_planar, is_whole, converted, sample_of};
 ghost use Rattle.sample_conversion.specs.Sizes.{is_format_size};
-ghost use Rattle.flac_subframes.specs.Spelling.{HasDepth, HaveDepth};
+ghost use Rattle.flac_definitions.specs.SubframeWriting.{HasDepth, HaveDepth};
 ghost use Rattle.codec_definitions.specs.FlacEncoder.{value_at, frame_values, values_in};
 ghost use Rattle.flac_encode.specs.Runs.{run_value};
 

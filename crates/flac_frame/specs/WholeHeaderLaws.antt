@@ -1,6 +1,6 @@
 -- Headers are read exactly where they are spelled, with their sum.
-use Rattle.std.proofs.Common.{◌≡◌, ℕ, ◌+◌, ◌%◌, ◌<◌, Bool, true, false, not, cond, eqb, List, [], ◌++◌, Some, Result, Ok, Err, length, refl, sym, ap, subst, ◌∙◌, arith, length-append, append-nil}
-use Rattle.std.proofs.lemmas.Bool.{eqb-true, eq-eqb}
+use Rattle.std.proofs.Common.{◌≡◌, ℕ, ◌+◌, ◌%◌, ◌<◌, ◌≤◌, ◌&&◌, nat_le, Bool, true, false, not, cond, eqb, List, [], ◌++◌, Some, Result, Ok, Err, length, refl, sym, ap, subst, ◌∙◌, arith, length-append, append-nil}
+use Rattle.std.proofs.lemmas.Bool.{eqb-true, eq-eqb, leb-true, le-leb, and_parts}
 use Rattle.wc_config.specs.declared.stream_info.StreamInfo.{StreamInfo}
 use Rattle.flac_definitions.specs.Bits.{Place, forward, bits_of, Begins, start_of}
 use Rattle.flac_definitions.specs.Sums.{crc8_of, bits_sum}
@@ -9,9 +9,8 @@ use Rattle.flac_definitions.specs.declared.fault.HeaderFault.{HeaderFault}
 use Rattle.flac_definitions.specs.declared.fault.HeaderFault.TheVariants as fault
 use Rattle.flac_definitions.specs.declared.fault.HeaderField.TheVariants as which
 use Rattle.flac_definitions.specs.declared.header.FrameHeader.{FrameHeader}
-use Rattle.flac_definitions.specs.declared.header.HeaderCodes.{HeaderCodes}
 use Rattle.flac_definitions.specs.Results.{◌>>=◌}
-use Rattle.flac_definitions.specs.Header.{field_at, codes_at, coded_number_at, block_size_at, sample_rate_at, depth_of, channels_of, bytes_between, header_sum_at, if_described, header_at}
+use Rattle.flac_definitions.specs.Header.{field_at, codes_at, coded_number_at, block_size_at, sample_rate_at, is_stream_depth, header_with, channels_of, bytes_between, header_sum_at, if_described, header_at}
 use Rattle.flac_definitions.specs.PlaceLaws.{begins_first, begins_second, begins_both, forward_twice}
 use Rattle.flac_definitions.specs.Grammar.{IsNumber, IsGiven, IsNothing, InOrder, Either, Found, ReadsOr}
 use Rattle.flac_definitions.specs.HeaderSpelling.{AreCodes, IsCodedNumber, IsBlockSize, IsSampleRate, IsFront, IsDescribed, IsHeader}
@@ -21,20 +20,17 @@ use Rattle.flac_frame.specs.HeaderLaws.{given, field, codes, coded_number, block
 use Rattle.flac_frame.specs.HeaderSums.{sum_8, bytes_front}
 
 -- a header up to its sum
-abbrev pub header_of : StreamInfo → HeaderCodes → ℕ → ℕ → ℕ → FrameHeader
-header_of info codes number block rate = record { block = block; rate = rate; assignment = codes.assignment; depth = depth_of info.depth codes.depth; number = number }
-
 abbrev pub front_at : StreamInfo → Place → Result (FrameHeader × Place) HeaderFault
 front_at info p =
     codes_at p >>= λ codes. coded_number_at codes.1 >>= λ number. block_size_at codes.0.block number.1 >>= λ block. sample_rate_at info.rate codes.0.rate block.1 >>= λ rate.
-    given_or (header_of info codes.0 number.0 block.0 rate.0) rate.1
+    given_or (header_with info codes.0 number.0 block.0 rate.0) rate.1
 
 front_reads : (info : StreamInfo) → ReadsOr (front_at info) (IsFront info)
 front_reads info =
     or_then codes_at _ AreCodes _ codes (λ codes.
     or_then coded_number_at _ IsCodedNumber _ coded_number (λ number.
     or_then (block_size_at codes.block) _ (IsBlockSize codes.block) _ (block codes.block) (λ block.
-    or_then (sample_rate_at info.rate codes.rate) (λ rate p. given_or (header_of info codes number block rate) p) (IsSampleRate info.rate codes.rate) (λ rate. IsGiven (Some (header_of info codes number block rate))) (rate info.rate codes.rate) (λ rate. given (header_of info codes number block rate)))))
+    or_then (sample_rate_at info.rate codes.rate) (λ rate p. given_or (header_with info codes number block rate) p) (IsSampleRate info.rate codes.rate) (λ rate. IsGiven (Some (header_with info codes number block rate))) (rate info.rate codes.rate) (λ rate. given (header_with info codes number block rate)))))
 
 -- the sum behind it, and what the description says
 abbrev pub summed_at : ℕ → Place → Result (Unit {0} × Place) HeaderFault
@@ -48,7 +44,7 @@ IsSummed counted = InOrder (IsNumber 8) (λ k. Either (eqb k counted) (IsGiven (
 
 abbrev pub IsAgreed : StreamInfo → FrameHeader → FrameHeader → List Bool → Type 0
 IsAgreed info h =
-    Either (not (eqb h.rate info.rate)) IsNothing (Either (not (eqb (channels_of h.assignment) info.channels)) IsNothing (Either (not (eqb h.depth info.depth)) IsNothing (IsGiven (Some h))))
+    Either (not (eqb h.rate info.rate)) IsNothing (Either (not (eqb (channels_of h.assignment) info.channels)) IsNothing (Either (not (is_stream_depth info.depth && eqb h.depth info.depth)) IsNothing (IsGiven (Some h))))
 
 summed_reads : (counted : ℕ) → ReadsOr (summed_at counted) (IsSummed counted)
 summed_reads counted =
@@ -59,10 +55,19 @@ agreed_reads : (info : StreamInfo) (h : FrameHeader) → ReadsOr (λ p. if_descr
 agreed_reads info h =
     or_chosen (not (eqb h.rate info.rate)) (λ p. Err (fault.Differs which.Rate)) _ IsNothing _ (or_fails (λ p. fault.Differs which.Rate))
     (or_chosen (not (eqb (channels_of h.assignment) info.channels)) (λ p. Err (fault.Differs which.Channels)) _ IsNothing _ (or_fails (λ p. fault.Differs which.Channels))
-    (or_chosen (not (eqb h.depth info.depth)) (λ p. Err (fault.Differs which.Depth)) (λ p. given_or h p) IsNothing (IsGiven (Some h)) (or_fails (λ p. fault.Differs which.Depth)) (given h)))
+    (or_chosen (not (is_stream_depth info.depth && eqb h.depth info.depth)) (λ p. Err (fault.Differs which.Depth)) (λ p. given_or h p) IsNothing (IsGiven (Some h)) (or_fails (λ p. fault.Differs which.Depth)) (given h)))
 
 tail_reads : (info : StreamInfo) (h : FrameHeader) (counted : ℕ) → ReadsOr (tail_at info h counted) (InOrder (IsSummed counted) (λ _. IsAgreed info h))
 tail_reads info h counted = or_then (summed_at counted) (λ _ p. if_described info (h, p)) (IsSummed counted) (λ _. IsAgreed info h) (summed_reads counted) (λ _. agreed_reads info h)
+
+depth_parts : (n : ℕ) (t : Bool) → (is_stream_depth n && t) ≡ true → (1 ≤ n) × (n ≤ 32) × (t ≡ true)
+depth_parts n t e =
+    let both = and_parts (is_stream_depth n) t e in
+    let range = and_parts (nat_le 1 n) (nat_le n 32) both.0 in
+    (leb-true 1 n range.0, leb-true n 32 range.1, both.1)
+
+depth_whole : (n : ℕ) (t : Bool) → t ≡ true → 1 ≤ n → n ≤ 32 → (is_stream_depth n && t) ≡ true
+depth_whole n t e some few = rw (le-leb 1 n some, le-leb n 32 few, e) refl
 
 -- the same in plain words
 agreed_cases : (a b c : Bool) (h x : FrameHeader) (bits : List Bool) → Either (not a) IsNothing (Either (not b) IsNothing (Either (not c) IsNothing (IsGiven (Some h)))) x bits
@@ -88,10 +93,11 @@ summed_back false tt e = absurd (let n : ⊥ = cc in n)
 
 tail_cases : (info : StreamInfo) (h x : FrameHeader) (counted : ℕ) (bits : List Bool) → InOrder (IsSummed counted) (λ _. IsAgreed info h) x bits → (bits ≡ bits_of 8 counted) × (h ≡ x) × IsDescribed info h
 tail_cases info h x counted bits t =
-    let a = agreed_cases (eqb h.rate info.rate) (eqb (channels_of h.assignment) info.channels) (eqb h.depth info.depth) h x t.back t.second in
+    let a = agreed_cases (eqb h.rate info.rate) (eqb (channels_of h.assignment) info.channels) (is_stream_depth info.depth && eqb h.depth info.depth) h x t.back t.second in
+    let d = depth_parts info.depth (eqb h.depth info.depth) a.2 in
     let s = summed_cases (eqb t.first.value counted) t.first.value counted t.value t.first.back refl t.first.second in
     let front : t.front ≡ bits_of 8 counted = nothing_behind t.first.front t.first.back t.front t.first.whole s.1 ∙ t.first.first.1 ∙ ap (λ k. bits_of 8 k) s.0 in
-    (nothing_behind t.front t.back bits t.whole a.4 ∙ front, a.3, (eqb-true h.rate info.rate a.0, eqb-true (channels_of h.assignment) info.channels a.1, eqb-true h.depth info.depth a.2))
+    (nothing_behind t.front t.back bits t.whole a.4 ∙ front, a.3, (eqb-true h.rate info.rate a.0, eqb-true (channels_of h.assignment) info.channels a.1, eqb-true h.depth info.depth d.2, d.0, d.1))
 
 tail_back : (info : StreamInfo) (h : FrameHeader) (counted : ℕ) → counted < 256 → IsDescribed info h → InOrder (IsSummed counted) (λ _. IsAgreed info h) h (bits_of 8 counted)
 tail_back info h counted fits d = record {
@@ -99,7 +105,7 @@ tail_back info h counted fits d = record {
   front = bits_of 8 counted;
   back = [];
   first = record { value = counted; front = bits_of 8 counted; back = []; first = (fits, refl); second = summed_back (eqb counted counted) tt (eq-eqb counted counted refl); whole = sym (append-nil (bits_of 8 counted)) };
-  second = agreed_back (eqb h.rate info.rate) (eqb (channels_of h.assignment) info.channels) (eqb h.depth info.depth) h (eq-eqb h.rate info.rate d.0) (eq-eqb (channels_of h.assignment) info.channels d.1) (eq-eqb h.depth info.depth d.2);
+  second = agreed_back (eqb h.rate info.rate) (eqb (channels_of h.assignment) info.channels) (is_stream_depth info.depth && eqb h.depth info.depth) h (eq-eqb h.rate info.rate d.0) (eq-eqb (channels_of h.assignment) info.channels d.1) (depth_whole info.depth (eqb h.depth info.depth) (eq-eqb h.depth info.depth d.2) d.3 d.4);
   whole = sym (append-nil (bits_of 8 counted));
 }
 
@@ -114,7 +120,7 @@ header_is info p =
     step (codes_at p) _ _ (λ h. tail_at info h.0 (crc8_of (bytes_between h.1.bytes p.at h.1.at)) h.1) (λ codes.
     step (coded_number_at codes.1) _ _ (λ h. tail_at info h.0 (crc8_of (bytes_between h.1.bytes p.at h.1.at)) h.1) (λ number.
     step (block_size_at codes.0.block number.1) _ _ (λ h. tail_at info h.0 (crc8_of (bytes_between h.1.bytes p.at h.1.at)) h.1) (λ block.
-    step (sample_rate_at info.rate codes.0.rate block.1) (λ rate. given_or (header_of info codes.0 number.0 block.0 rate.0) rate.1) _ (λ h. tail_at info h.0 (crc8_of (bytes_between h.1.bytes p.at h.1.at)) h.1) (λ rate. refl))))
+    step (sample_rate_at info.rate codes.0.rate block.1) (λ rate. given_or (header_with info codes.0 number.0 block.0 rate.0) rate.1) _ (λ h. tail_at info h.0 (crc8_of (bytes_between h.1.bytes p.at h.1.at)) h.1) (λ rate. refl))))
 
 -- the place behind bits from the start
 behind_start : (bytes : List ℕ) (n : ℕ) → (forward n (start_of bytes)).at ≡ n

@@ -6,8 +6,9 @@ use Rattle.std.proofs.lemmas.List.FromFn.{get_or-map-range_with_len, length-map-
 use Rattle.std.proofs.Common.{get_or}
 use Rattle.std.proofs.lemmas.Bool.{cases_lt}
 use Rattle.std.proofs.lemmas.Nat.{pow_pos, one_shl}
-use Rattle.flac_plans.specs.declared.plan.RicePlan.{RicePlan}
-use Rattle.flac_plans.specs.Plans.{best_parameter, part_of, part_bits, fits, finest, plan_bits, best_partition, cost, IsFirstLeast, IsPlan, IsUsable}
+use Rattle.flac_definitions.specs.declared.plan.RicePlan.{RicePlan}
+use Rattle.flac_definitions.specs.Plans.{best_parameter, part_of, part_bits, fits, finest, plan_bits, best_partition, cost, IsPlan, IsUsable}
+use Rattle.flac_plans.specs.Search.{IsFirstLeast}
 pub use Rattle.flac_plans.specs.FitLaws.{fits_whole, fits_lower}
 use Rattle.flac_plans.proofs.Windows.{one_first, takes_front, keeps_front, first_is, is_first}
 

@@ -5,7 +5,8 @@ use Rattle.std.specs.List.{range_with_len}
 use Rattle.std.proofs.Math.Nat.{div-add-mod, div-le_of_le-mul, mul-div_right, pow-suc}
 use Rattle.std.proofs.lemmas.Nat.{pow_pos, mod_below}
 use Rattle.std.proofs.lemmas.List.Sums.{sum_by-append}
-use Rattle.flac_plans.specs.Plans.{value_size, cost, quotients, total, best_parameter, part_of, plan_bits, fits, IsBelow, NoPlanIsBelow, least, leasts}
+use Rattle.flac_definitions.specs.Plans.{value_size, cost, best_parameter, part_of, plan_bits, fits}
+use Rattle.flac_plans.specs.Search.{quotients, total, IsBelow, NoPlanIsBelow, least, leasts}
 use Rattle.flac_plans.proofs.Windows.{cost_is, is_first, sum_cons}
 use Rattle.flac_plans.proofs.Rows.{part_joined, sum_more, one_more_sum}
 use Rattle.flac_plans.proofs.Descent.{fits_whole, fits_lower}

@@ -10,8 +10,8 @@ use Rattle.flac_definitions.specs.Grammar.{IsNumber, IsGiven, IsNothing, InOrder
 use Rattle.flac_definitions.specs.Residual.{can_be_partitioned, parameter_size}
 use Rattle.flac_definitions.specs.ResidualSpelling.{folded_value, IsInRange, IsValue, IsSigned, AreEach, IsPartition, ArePartitions, IsPartitioned, IsResidual}
 use Rattle.flac_write.specs.SpellingLaws.{in_order, in_order_given, one_of, other_of}
-use Rattle.flac_plans.specs.Plans.{part_of}
-use Rattle.flac_plans.specs.Spelling.{rice_bits, part_spelled, residual_bits}
+use Rattle.flac_definitions.specs.Plans.{part_of}
+use Rattle.flac_definitions.specs.ResidualWriting.{rice_bits, part_spelled, residual_bits}
 use Rattle.flac_plans.specs.ResidualLaws.{IsWritable}
 use Rattle.flac_plans.specs.FitLaws.{fits_whole}
 

@@ -6,7 +6,8 @@ use Rattle.std.proofs.lemmas.Bool.{cases_lt}
 use Rattle.std.proofs.lemmas.List.{take_at, drop_at, drop-drop, length-append}
 use Rattle.std.proofs.lemmas.List.FromFn.{length-map-range_with_len, map-range_with_len_more}
 use Rattle.std.proofs.lemmas.List.Sums.{sum_by-append}
-use Rattle.flac_plans.specs.Plans.{fits, finest, part_of, row, table, quotients, IsWindow}
+use Rattle.flac_definitions.specs.Plans.{fits, finest, part_of}
+use Rattle.flac_plans.specs.Search.{row, table, quotients, IsWindow}
 use Rattle.flac_plans.proofs.Windows.{window_wider, window_joined}
 
 -- ---- partition orders

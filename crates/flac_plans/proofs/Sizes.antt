@@ -7,7 +7,8 @@ use Rattle.std.proofs.lemmas.List.{map-append, take_more, take_all, length-appen
 use Rattle.std.proofs.lemmas.List.Sums.{sum_by-append}
 use Rattle.flac_definitions.specs.ResidualSpelling.{folded_value}
 use Rattle.std.proofs.lemmas.Bool.{cases_lt, lt-ltb, le-ltb}
-use Rattle.flac_plans.specs.Plans.{total, first_least, least_value, distance_within, bound_at, part_of, part_bound, part_bounds}
+use Rattle.flac_definitions.specs.Plans.{first_least, part_of}
+use Rattle.flac_plans.specs.Search.{total, least_value, distance_within, bound_at, part_bound, part_bounds}
 use Rattle.flac_plans.proofs.Windows.{first_more}
 use Rattle.flac_plans.proofs.Rows.{one_more_sum}
 

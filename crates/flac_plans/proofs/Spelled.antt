@@ -11,7 +11,7 @@ use Rattle.flac_definitions.specs.ResidualSpelling.{folded_value}
 use Rattle.flac_definitions.specs.Bits.{bits_of}
 use Rattle.flac_write.specs.Writer.{IsBegun}
 use Rattle.flac_write.specs.WriterLaws.{bits_cat, bits_mod, bits_zero, bit_one, zeros_more, nothing_begun, begun_first, begun_then, begun_as}
-use Rattle.flac_plans.specs.Spelling.{rice_bits}
+use Rattle.flac_definitions.specs.ResidualWriting.{rice_bits}
 
 -- what holds anyway
 pub on_err : {T E P : Type 0} (r : Result T E) → P → OnErr r P

@@ -10,7 +10,8 @@ use Rattle.std.proofs.lemmas.Bool.{cases_lt, lt-ltb, le-ltb}
 use Rattle.std.proofs.lemmas.Nat.{pow_pos, shr-shr, shr_le, mod_below}
 use Rattle.std.proofs.lemmas.List.{length-append, take-append-drop, drop_more}
 use Rattle.std.proofs.lemmas.List.Sums.{sum_by-append}
-use Rattle.flac_plans.specs.Plans.{value_size, cost, quotients, total, first_least, IsFirstLeast, IsWindow, row}
+use Rattle.flac_definitions.specs.Plans.{value_size, cost, first_least}
+use Rattle.flac_plans.specs.Search.{quotients, total, IsFirstLeast, IsWindow, row}
 
 -- ---- sums over lists, taken apart
 

@@ -5,7 +5,7 @@ use Rattle.std.proofs.Math.Nat.{div-eq_of_lt, pow-le-pow_right, div-add-mod, mul
 use Rattle.std.proofs.lemmas.Bool.{cases_lt, eqb-true, ltb-true, eq-eqb, lt-ltb, le-ltb}
 use Rattle.std.proofs.lemmas.Nat.{pow_pos, pow-add}
 use Rattle.std.proofs.lemmas.List.Elements.{filter-append}
-use Rattle.flac_plans.specs.Plans.{fits, finest, first_least, plan_bits, best_partition}
+use Rattle.flac_definitions.specs.Plans.{fits, finest, first_least, plan_bits, best_partition}
 use Rattle.std.proofs.Math.Bool.{and-false}
 
 no : false ≡ true → ⊥

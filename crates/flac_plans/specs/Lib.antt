@@ -1,4 +1,3 @@
 pub mod FitLaws
-pub mod Plans
 pub mod ResidualLaws
-pub mod Spelling
+pub mod Search

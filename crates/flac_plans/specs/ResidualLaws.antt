@@ -4,8 +4,8 @@ use Rattle.std.specs.List.{All}
 use Rattle.flac_definitions.specs.Bits.{Place, Begins, forward}
 use Rattle.flac_definitions.specs.Residual.{residual_at}
 use Rattle.flac_definitions.specs.ResidualSpelling.{IsResidual, IsInRange, folded_value}
-use Rattle.flac_plans.specs.Plans.{fits}
-use Rattle.flac_plans.specs.Spelling.{residual_bits}
+use Rattle.flac_definitions.specs.Plans.{fits}
+use Rattle.flac_definitions.specs.ResidualWriting.{residual_bits}
 
 -- a residual that can be written with a partition order and parameters
 pub record IsWritable (block order p : ℕ) (xs : List ℤ) (parameters : List ℕ) : Type 0 where

@@ -1,5 +1,5 @@
 // Laws of plans and of residuals.
-ghost use Rattle.flac_plans.specs.Plans.{NoPlanIsBelow};
+ghost use Rattle.flac_plans.specs.Search.{NoPlanIsBelow};
 ghost use Rattle.flac_plans.specs.ResidualLaws.{WrittenResidualsAreRead};
 
 use flac_rice::residuals_are_spelled;

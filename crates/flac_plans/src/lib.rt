@@ -6,6 +6,7 @@ mod plan;
 mod residual;
 mod sums;
 
+pub use flac_definitions::RicePlan;
 pub use laws::{no_plan_is_below, written_residuals_are_read};
-pub use plan::{RicePlan, best_below, best_parameters, least_bits};
+pub use plan::{best_below, best_parameters, least_bits};
 pub use residual::write_residual;

@@ -2,22 +2,15 @@
 ghost use Rattle.std.specs.Prelude.{◌≡◌, ◌<◌, ◌≤◌, ◌+◌, ◌-◌, ◌*◌, ◌/◌, ◌%◌, ◌^◌, ℕ, true, length, ◌++◌, map, take, drop, sum_by, IfOk, IfSome, IfNone, OnOk};
 ghost use Rattle.std.specs.List.{range_with_len};
 ghost use Rattle.flac_definitions.specs.ResidualSpelling.{folded_value};
-ghost use Rattle.flac_plans.specs.Plans.{fits, finest, best_partition, best_parameter, cost, part_of, part_bits, part_bounds, row, table, plan_bits, plan_bound, IsPlan, IsUsable, IsWindow, leasts};
+ghost use Rattle.flac_definitions.specs.Plans.{fits, finest, best_partition, best_parameter, cost, part_of, part_bits, plan_bits, IsPlan, IsUsable};
+ghost use Rattle.flac_plans.specs.Search.{part_bounds, row, table, plan_bound, IsWindow, leasts};
 
 use crate::sums::{
     Window, all_folded, best_of, bound_for, narrowed_by, part, part_of, push_joined, push_row,
 };
+use flac_definitions::RicePlan;
 use std::alloc::Global;
 use wc_base::NoMemory;
-
-/// How a residual is cut and coded (RFC 9639, section 9.2.7): the partition order, the parameter of each part, and how
-/// many bits the coded residual has with them, its first 6 bits among them.
-#[derive(Drop)]
-pub struct RicePlan {
-    pub partition: u32,
-    pub parameters: Vec<u8>,
-    pub bits: u64,
-}
 
 /// The plan that `best_parameters` gives; none exactly where it has no fewer bits than `limit`.
 pub fn best_below(

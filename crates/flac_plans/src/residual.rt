@@ -3,11 +3,11 @@ ghost use Rattle.std.specs.Prelude.{◌≡◌, ◌<◌, ◌≤◌, ◌+◌, ◌-
 ghost use Rattle.flac_definitions.specs.Bits.{bits_of};
 ghost use Rattle.flac_definitions.specs.ResidualSpelling.{folded_value};
 ghost use Rattle.flac_write.specs.Writer.{IsBegun};
-ghost use Rattle.flac_plans.specs.Plans.{IsUsable, part_of};
-ghost use Rattle.flac_plans.specs.Spelling.{rice_bits, part_spelled, residual_bits};
+ghost use Rattle.flac_definitions.specs.Plans.{IsUsable, part_of};
+ghost use Rattle.flac_definitions.specs.ResidualWriting.{rice_bits, part_spelled, residual_bits};
 
-use crate::plan::RicePlan;
 use crate::sums::{folded_value, part_of};
+use flac_definitions::RicePlan;
 use flac_write::BitWriter;
 use wc_base::NoMemory;
 

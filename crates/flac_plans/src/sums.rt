@@ -2,7 +2,8 @@
 ghost use Rattle.std.specs.Prelude.{ℕ, ◌≡◌, ◌<◌, ◌≤◌, ◌+◌, ◌-◌, ◌*◌, ◌/◌, ◌^◌, ◌++◌, ◌∷◌, [], length, map, IfOk, OnOk, sum_by};
 ghost use Rattle.std.specs.List.{range_with_len};
 ghost use Rattle.flac_definitions.specs.ResidualSpelling.{folded_value};
-ghost use Rattle.flac_plans.specs.Plans.{quotients, total, cost, best_parameter, part_of, row, table, IsFirstLeast, IsWindow, bound_at, distance_within, least, least_value, part_bound};
+ghost use Rattle.flac_definitions.specs.Plans.{cost, best_parameter, part_of};
+ghost use Rattle.flac_plans.specs.Search.{quotients, total, row, table, IsFirstLeast, IsWindow, bound_at, distance_within, least, least_value, part_bound};
 
 use std::alloc::Global;
 use wc_base::NoMemory;

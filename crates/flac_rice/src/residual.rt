@@ -9,7 +9,8 @@ use crate::partition::all_partitions_into;
 use flac_bits::{BitReader, number_at};
 use flac_definitions::ResidualFault;
 
-/// Appends the residual of a block behind a predictor of an order. A fault appends nothing.
+/// Appends the residual of a block behind a predictor of an order. After a fault nothing is appended, and the reader
+/// stands where it stood.
 pub fn read_residual(
     r: &mut BitReader<'_>,
     block: u32,
@@ -19,6 +20,7 @@ pub fn read_residual(
     ensures length { OnOk result (length out.new.items ≡ length out.old.items + (block - order)) }
     ensures appended { Appends (residual_at block order r.old) result out.old.items out.new.items r.new }
     ensures bytes { r.new.bytes ≡ r.old.bytes }
+    ensures err { OnErr result (r.new ≡ r.old) }
 {
     let old = out.len();
     match cut_into(r.bytes(), r.at(), block, order, out) {
@@ -44,6 +46,7 @@ pub fn read_residual_into(
     requires places { length out.old ≡ block - order }
     ensures filled { FillsIn (residual_at block order r.old) result out.new r.new }
     ensures bytes { r.new.bytes ≡ r.old.bytes }
+    ensures err { OnErr result (r.new ≡ r.old) }
 {
     match fill(r.bytes(), r.at(), block, order, out) {
         Ok(at) => {

@@ -60,8 +60,6 @@ fn work_on<W: Write>(
     buffers: &mut Buffers,
     writer: &mut W,
 ) -> io::Result<Option<u64>>
-    requires some { 0 < info.now.depth }
-    requires depth { info.now.depth ≤ 32 }
 {
     let Buffers {
         residual,

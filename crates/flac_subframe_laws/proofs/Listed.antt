@@ -2,11 +2,11 @@
 use Rattle.std.proofs.Common.{ℕ, zero, suc, ℤ, ◌≡◌, ◌≤◌, ◌+◌, min, Bool, true, false, cond, List, [], ◌∷◌, ◌++◌, length, map, refl, arith}
 use Rattle.std.specs.Prelude.{nat_lt}
 use Rattle.std.specs.List.{AllByRecursion, flat_map, filter, range_with_len}
-use Rattle.flac_plans.specs.Plans.{fits}
-use Rattle.flac_subframes.specs.Fixed.{residuals, are_in_range}
-use Rattle.flac_subframes.specs.Candidates.{is_constant, fixed_candidates, candidates, candidate_bits, first_shortest, shortest_of, best_candidate}
-use Rattle.flac_subframes.specs.declared.candidate.Candidate.{Candidate}
-use Rattle.flac_subframes.specs.declared.candidate.Candidate.TheVariants.{Constant, Verbatim, Fixed}
+use Rattle.flac_definitions.specs.Plans.{fits}
+use Rattle.flac_definitions.specs.FixedPredictors.{residuals, are_in_range}
+use Rattle.flac_definitions.specs.Candidates.{is_constant, fixed_candidates, candidates, candidate_bits, first_shortest, shortest_of, best_candidate}
+use Rattle.flac_definitions.specs.declared.candidate.Candidate.{Candidate}
+use Rattle.flac_definitions.specs.declared.candidate.Candidate.TheVariants.{Constant, Verbatim, Fixed}
 use Rattle.flac_subframe_laws.specs.Laws.{IsCandidate}
 
 all_both : {X : Type 0} (P : X → Type 0) (xs ys : List X) → AllByRecursion P xs → AllByRecursion P ys → AllByRecursion P (xs ++ ys)

@@ -7,10 +7,9 @@ use Rattle.std.proofs.Math.Seq.{take-suc}
 use Rattle.std.proofs.lemmas.Bool.{lt-ltb, le-leb}
 use Rattle.std.proofs.lemmas.Int.{ints}
 use Rattle.std.proofs.lemmas.List.{reverse-append, drop_all}
-use Rattle.flac_definitions.specs.Prediction.{sum_of_products, prediction, fits_depth, with_sample, samples_behind}
-use Rattle.flac_definitions.specs.Prediction.{fixed_coefficients}
-use Rattle.flac_subframes.specs.Fixed.{at, predicted, residual_at, residuals}
-use Rattle.flac_subframes.specs.Spelling.{HasDepth, HaveDepth}
+use Rattle.flac_definitions.specs.Prediction.{sum_of_products, prediction, fits_depth, with_sample, samples_behind, fixed_coefficients}
+use Rattle.flac_definitions.specs.FixedPredictors.{at, predicted, residual_at, residuals}
+use Rattle.flac_definitions.specs.SubframeWriting.{HasDepth, HaveDepth}
 
 -- ---- the past
 

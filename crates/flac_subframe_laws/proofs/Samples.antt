@@ -13,9 +13,9 @@ use Rattle.flac_definitions.specs.ResidualSpelling.{IsSigned, AreEach}
 use Rattle.flac_definitions.specs.Grammar.{IsNumber, IsGiven, InOrder}
 use Rattle.flac_definitions.specs.SubframeSpelling.{AreSamples, IsConstant}
 use Rattle.flac_write.specs.SpellingLaws.{in_order, in_order_given}
-use Rattle.flac_subframes.specs.Fixed.{at}
-use Rattle.flac_subframes.specs.Spelling.{twos_complement, sample_bits, HasDepth, HaveDepth}
-use Rattle.flac_subframes.specs.Candidates.{are_all}
+use Rattle.flac_definitions.specs.FixedPredictors.{at}
+use Rattle.flac_definitions.specs.SubframeWriting.{twos_complement, sample_bits, HasDepth, HaveDepth}
+use Rattle.flac_definitions.specs.Candidates.{are_all}
 
 abbrev some : ℤ → Rattle.std.specs.Prelude.Option ℤ
 some v = Some v

@@ -15,13 +15,13 @@ use Rattle.flac_definitions.specs.ResidualSpelling.{IsInRange, IsResidual, folde
 use Rattle.flac_definitions.specs.Subframe.{subframe_at, with_wasted_bits}
 use Rattle.flac_definitions.specs.SubframeSpelling.{AreSamples, IsPredictor, IsFixed, IsBody, IsSubframe}
 use Rattle.flac_write.specs.SpellingLaws.{in_order, in_order_given, one_of, other_of}
-use Rattle.flac_plans.specs.Plans.{part_of, cost, first_least, best_parameter, plan_parameters}
-use Rattle.flac_plans.specs.Spelling.{residual_bits}
+use Rattle.flac_definitions.specs.Plans.{part_of, cost, first_least, best_parameter, plan_parameters}
+use Rattle.flac_definitions.specs.ResidualWriting.{residual_bits}
 use Rattle.flac_plans.specs.ResidualLaws as plan
-use Rattle.flac_subframes.specs.Fixed.{at, residual_at, residuals, folded_residual, is_in_range, are_in_range}
-use Rattle.flac_subframes.specs.Spelling.{sample_bits, HaveDepth, subframe_bits}
-use Rattle.flac_subframes.specs.declared.candidate.Candidate.{Candidate}
-use Rattle.flac_subframes.specs.declared.candidate.Candidate.TheVariants.{Constant, Verbatim, Fixed}
+use Rattle.flac_definitions.specs.FixedPredictors.{at, residual_at, residuals, folded_residual, is_in_range, are_in_range}
+use Rattle.flac_definitions.specs.SubframeWriting.{sample_bits, HasDepth, HaveDepth, subframe_bits}
+use Rattle.flac_definitions.specs.declared.candidate.Candidate.{Candidate}
+use Rattle.flac_definitions.specs.declared.candidate.Candidate.TheVariants.{Constant, Verbatim, Fixed}
 use Rattle.flac_subframe_laws.specs.Laws.{IsCandidate, IsWritable, WrittenSubframesAreRead}
 use Rattle.flac_subframe_laws.proofs.Samples.{samples_are, constant_is}
 use Rattle.flac_subframe_laws.proofs.Predictors.{coefficient_count, samples_given}
@@ -108,7 +108,7 @@ fixed_is law depth order p xs positive h own =
     let front : AreSamples depth order (take order xs) (flat_map (sample_bits depth) (take order xs)) =
     subst (λ (k : ℕ). AreSamples depth k (take order xs) (flat_map (sample_bits depth) (take order xs))) long
     (samples_are depth (take order xs) positive (λ j lt. (let l : j < order = omega (arith, lt, long) in
-    subst (λ (v : ℤ). Rattle.flac_subframes.specs.Spelling.HasDepth depth v) (sym (get_or-take order xs j (pos 0) l)) (h j (omega (arith, l, below)))))) in
+    subst (λ (v : ℤ). HasDepth depth v) (sym (get_or-take order xs j (pos 0) l)) (h j (omega (arith, l, below)))))) in
     let writable : plan.IsWritable n order p (residuals order xs) parameters = record {
       count = omega (arith, length-map-range_with_len (λ (j : ℕ). residual_at order xs (order + j)) 0 (n - order), below);
       partition = own.1;

@@ -4,12 +4,12 @@ use Rattle.std.specs.List.{AllByRecursion}
 use Rattle.flac_definitions.specs.Bits.{Place, Begins, forward}
 use Rattle.flac_definitions.specs.Subframe.{subframe_at}
 use Rattle.flac_definitions.specs.SubframeSpelling.{IsSubframe}
-use Rattle.flac_plans.specs.Plans.{fits}
-use Rattle.flac_subframes.specs.Fixed.{residuals, are_in_range}
-use Rattle.flac_subframes.specs.Spelling.{HaveDepth, subframe_bits}
-use Rattle.flac_subframes.specs.Candidates.{is_constant, candidates, best_candidate}
-use Rattle.flac_subframes.specs.declared.candidate.Candidate.{Candidate}
-use Rattle.flac_subframes.specs.declared.candidate.Candidate.TheVariants.{Constant, Verbatim, Fixed}
+use Rattle.flac_definitions.specs.Plans.{fits}
+use Rattle.flac_definitions.specs.FixedPredictors.{residuals, are_in_range}
+use Rattle.flac_definitions.specs.SubframeWriting.{HaveDepth, subframe_bits}
+use Rattle.flac_definitions.specs.Candidates.{is_constant, candidates, best_candidate}
+use Rattle.flac_definitions.specs.declared.candidate.Candidate.{Candidate}
+use Rattle.flac_definitions.specs.declared.candidate.Candidate.TheVariants.{Constant, Verbatim, Fixed}
 
 -- a candidate for a subframe of these samples
 abbrev pub IsCandidate : List ℤ → Candidate → Type 0

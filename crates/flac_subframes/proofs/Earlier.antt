@@ -3,10 +3,11 @@ use Rattle.std.proofs.Common.{ℕ, suc, ℤ, ◌≡◌, ◌<◌, ◌≤◌, ◌+
 use Rattle.std.specs.List.{flat_map, range_with_len}
 use Rattle.std.proofs.lemmas.List.Concat.{flat_map-append}
 use Rattle.flac_plans.specs.FitLaws.{range_more}
-use Rattle.flac_subframes.specs.Fixed.{residuals, are_in_range, AreWithin}
-use Rattle.flac_subframes.specs.Candidates.{fixed_candidates, candidate_bits, shorter, first_shortest, best_of_order, IsChoice}
-use Rattle.flac_subframes.specs.declared.candidate.Candidate.{Candidate}
-use Rattle.flac_subframes.specs.declared.candidate.Choice.{Choice}
+use Rattle.flac_definitions.specs.FixedPredictors.{residuals, are_in_range}
+use Rattle.flac_subframes.specs.Search.{AreWithin, best_of_order}
+use Rattle.flac_definitions.specs.Candidates.{fixed_candidates, candidate_bits, shorter, first_shortest, IsChoice}
+use Rattle.flac_definitions.specs.declared.candidate.Candidate.{Candidate}
+use Rattle.flac_definitions.specs.declared.candidate.Choice.{Choice}
 use Rattle.flac_subframes.proofs.Ranges.{bound_at_end, bound_more, within_range}
 use Rattle.flac_subframes.proofs.Shortest.{takes, shorter_assoc, shortest-append, order_in_range, choice_as, shorter_choice}
 

@@ -3,8 +3,8 @@ use Rattle.std.proofs.Common.{ℕ, ℤ, pos, ◌≡◌, ◌<◌, ◌+◌, Bool, 
 use Rattle.std.specs.List.{flat_map}
 use Rattle.std.proofs.lemmas.List.{take_more}
 use Rattle.std.proofs.lemmas.List.Concat.{flat_map-append}
-use Rattle.flac_subframes.specs.Fixed.{at}
-use Rattle.flac_subframes.specs.Spelling.{sample_bits}
+use Rattle.flac_definitions.specs.FixedPredictors.{at}
+use Rattle.flac_definitions.specs.SubframeWriting.{sample_bits}
 
 pub sample_more : (before now next : List Bool) (depth i : ℕ) (xs : List ℤ) → i < length xs → now ≡ before ++ flat_map (sample_bits depth) (take i xs) → next ≡ now ++ sample_bits depth (at xs i)
     → next ≡ before ++ flat_map (sample_bits depth) (take (i + 1) xs)

@@ -4,7 +4,8 @@ use Rattle.std.proofs.Math.Nat.{pow-le-pow_right, pow-suc}
 use Rattle.std.proofs.lemmas.Bool.{lt-ltb, le-ltb}
 use Rattle.std.proofs.lemmas.Int.{ints}
 use Rattle.std.proofs.lemmas.List.FromFn.{fill_by_all, get_or-map-range_with_len, length-map-range_with_len}
-use Rattle.flac_subframes.specs.Fixed.{at, residual_at, residuals, is_in_range, are_in_range, IsWithin, AreWithin}
+use Rattle.flac_definitions.specs.FixedPredictors.{at, residual_at, residuals, is_in_range, are_in_range}
+use Rattle.flac_subframes.specs.Search.{IsWithin, AreWithin}
 
 less_none : (a : ℤ) → a ≡ a -ℤ pos 0
 less_none a = omega (arith, ints)

@@ -3,7 +3,8 @@ use Rattle.std.proofs.Common.{ℕ, zero, suc, ℤ, pos, ◌≡◌, ◌<◌, ◌�
 use Rattle.std.specs.List.{range_with_len}
 use Rattle.std.proofs.lemmas.Int.{ints}
 use Rattle.std.proofs.lemmas.List.FromFn.{get_or-map-range_with_len, length-map-range_with_len}
-use Rattle.flac_subframes.specs.Fixed.{at, residual_at, residuals, differences, IsWithin, AreWithin}
+use Rattle.flac_definitions.specs.FixedPredictors.{at, residual_at, residuals}
+use Rattle.flac_subframes.specs.Search.{differences, IsWithin, AreWithin}
 
 map_same : {X : Type 0} (f g : ℕ → X) (a m : ℕ) → ((j : ℕ) → a ≤ j → j < a + m → f j ≡ g j) → map f (range_with_len a m) ≡ map g (range_with_len a m)
 map_same {X} f g a zero h = refl

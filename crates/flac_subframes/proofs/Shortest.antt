@@ -5,16 +5,16 @@ use Rattle.std.proofs.Math.Nat.{div-le_self, mul-le-mul_left}
 use Rattle.std.proofs.lemmas.Bool.{cases_lt, lt-ltb, le-ltb}
 use Rattle.std.proofs.lemmas.List.{map-append}
 use Rattle.std.proofs.lemmas.List.Concat.{flat_map-append}
-use Rattle.flac_plans.specs.Plans.{fits, finest, plan_bits, best_partition, first_least}
+use Rattle.flac_definitions.specs.Plans.{fits, finest, plan_bits, best_partition, first_least, IsPlan, IsUsable}
 use Rattle.flac_plans.specs.FitLaws.{fitting_orders, range_more}
-use Rattle.flac_subframes.specs.Fixed.{at, residuals, folded_residual, are_in_range}
-use Rattle.flac_subframes.specs.Candidates.{are_all, is_constant, fixed_candidates, candidate_bits, shorter, first_shortest, shortest_of, best_candidate, plain_candidate, IsChoice}
-use Rattle.flac_subframes.specs.declared.candidate.Candidate.{Candidate}
-use Rattle.flac_subframes.specs.declared.candidate.Choice.{Choice}
+use Rattle.flac_definitions.specs.FixedPredictors.{at, residuals, folded_residual, are_in_range}
+use Rattle.flac_definitions.specs.Candidates.{are_all, is_constant, fixed_candidates, candidate_bits, shorter, first_shortest, shortest_of, best_candidate, IsChoice}
+use Rattle.flac_subframes.specs.Search.{plain_candidate}
+use Rattle.flac_definitions.specs.declared.candidate.Candidate.{Candidate}
+use Rattle.flac_definitions.specs.declared.candidate.Choice.{Choice}
 use Rattle.std.specs.Ordering.{int_eq}
-use Rattle.flac_plans.specs.Plans.{IsPlan, IsUsable}
 use Rattle.std.proofs.Common.{drop, drop-cons, add-one}
-use Rattle.flac_subframes.specs.declared.candidate.Candidate.TheVariants.{Constant, Verbatim, Fixed}
+use Rattle.flac_definitions.specs.declared.candidate.Candidate.TheVariants.{Constant, Verbatim, Fixed}
 
 pub takes : {A : Type 0} (f : A → ℕ) (a b : A) → f b < f a → shorter f a b ≡ b
 takes f a b h = ap (λ (t : Bool). cond t b a) (lt-ltb (f b) (f a) h)

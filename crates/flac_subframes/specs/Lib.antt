@@ -1,3 +1,1 @@
-pub mod Candidates
-pub mod Fixed
-pub mod Spelling
+pub mod Search

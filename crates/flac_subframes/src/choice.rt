@@ -2,15 +2,16 @@
 ghost use Rattle.std.specs.Prelude.{◌≡◌, ◌<◌, ◌≤◌, ◌+◌, ◌-◌, ◌*◌, ◌^◌, true, length, map, min, IfOk, if◌then◌else◌};
 ghost use Rattle.std.specs.Ordering.{int_eq};
 ghost use Rattle.std.specs.List.{flat_map, range_with_len};
-ghost use Rattle.flac_plans.specs.Plans.{best_partition, IsPlan, IsUsable};
-ghost use Rattle.flac_subframes.specs.Fixed.{at, residuals, folded_residual, are_in_range, AreWithin};
-ghost use Rattle.flac_subframes.specs.Candidates.{is_constant, are_all, fixed_candidates, candidates, candidate_bits, shorter, first_shortest, best_candidate, plain_candidate, best_of_order, IsChoice};
-ghost use Rattle.flac_subframes.specs.declared.candidate.Candidate.TheVariants.{Constant, Verbatim, Fixed};
+ghost use Rattle.flac_definitions.specs.Plans.{best_partition, IsPlan, IsUsable};
+ghost use Rattle.flac_definitions.specs.FixedPredictors.{at, residuals, folded_residual, are_in_range};
+ghost use Rattle.flac_subframes.specs.Search.{AreWithin, plain_candidate, best_of_order};
+ghost use Rattle.flac_definitions.specs.Candidates.{is_constant, are_all, fixed_candidates, candidates, candidate_bits, shorter, first_shortest, best_candidate, IsChoice};
+ghost use Rattle.flac_definitions.specs.declared.candidate.Candidate.TheVariants.{Constant, Verbatim, Fixed};
 
-use crate::candidate::{Candidate, Choice};
 use crate::likely::likely_order;
 use crate::orders::{are_within, residual_of, small_residual, to_next_order};
-use flac_plans::{RicePlan, best_below, best_parameters, least_bits};
+use flac_definitions::{Candidate, Choice, RicePlan};
+use flac_plans::{best_below, best_parameters, least_bits};
 use std::alloc::Global;
 use wc_base::NoMemory;
 

@@ -1,13 +1,12 @@
 //! Subframes of FLAC: the first candidate of least length, and its bits (RFC 9639, section 9.2).
 #![tactic(auto)]
 
-mod candidate;
 mod choice;
 mod likely;
 mod orders;
 mod subframe;
 
-pub use candidate::{Candidate, Choice};
 pub use choice::best_choice;
+pub use flac_definitions::{Candidate, Choice};
 pub use orders::residual_of;
 pub use subframe::write_subframe;

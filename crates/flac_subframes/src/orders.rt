@@ -1,7 +1,8 @@
 // Residuals of fixed predictors, order by order.
 ghost use Rattle.std.specs.Prelude.{◌≡◌, ◌<◌, ◌≤◌, ◌+◌, ◌-◌, ◌*◌, ◌^◌, ◌+ℤ◌, ◌-ℤ◌, ◌*ℤ◌, ◌≤ℤ◌, pos, negsuc, true, false, length, take, map, IfOk, IfSome, IfNone};
 ghost use Rattle.std.specs.List.{range_with_len};
-ghost use Rattle.flac_subframes.specs.Fixed.{at, predicted, residual_at, residuals, are_in_range, is_in_range, IsWithin, AreWithin, differences};
+ghost use Rattle.flac_definitions.specs.FixedPredictors.{at, predicted, residual_at, residuals, are_in_range, is_in_range};
+ghost use Rattle.flac_subframes.specs.Search.{IsWithin, AreWithin, differences};
 
 use std::alloc::Global;
 use wc_base::NoMemory;

@@ -2,16 +2,16 @@
 ghost use Rattle.std.specs.Prelude.{◌≡◌, ◌<◌, ◌≤◌, ◌+◌, ◌-◌, ◌*◌, ◌^◌, ◌++◌, true, length, take, map, OnOk};
 ghost use Rattle.std.specs.List.{flat_map};
 ghost use Rattle.flac_definitions.specs.Bits.{bits_of};
-ghost use Rattle.flac_plans.specs.Plans.{plan_parameters, IsPlan, IsUsable};
-ghost use Rattle.flac_plans.specs.Spelling.{residual_bits};
-ghost use Rattle.flac_subframes.specs.Fixed.{at, residuals, folded_residual, are_in_range};
-ghost use Rattle.flac_subframes.specs.Candidates.{IsChoice};
-ghost use Rattle.flac_subframes.specs.Spelling.{twos_complement, sample_bits, HasDepth, HaveDepth, subframe_bits};
-ghost use Rattle.flac_subframes.specs.declared.candidate.Candidate.TheVariants.{Constant, Verbatim, Fixed};
+ghost use Rattle.flac_definitions.specs.Plans.{plan_parameters, IsPlan, IsUsable};
+ghost use Rattle.flac_definitions.specs.ResidualWriting.{residual_bits};
+ghost use Rattle.flac_definitions.specs.FixedPredictors.{at, residuals, folded_residual, are_in_range};
+ghost use Rattle.flac_definitions.specs.Candidates.{IsChoice};
+ghost use Rattle.flac_definitions.specs.SubframeWriting.{twos_complement, sample_bits, HasDepth, HaveDepth, subframe_bits};
+ghost use Rattle.flac_definitions.specs.declared.candidate.Candidate.TheVariants.{Constant, Verbatim, Fixed};
 
-use crate::candidate::{Candidate, Choice};
 use crate::orders::residual_of;
-use flac_plans::{RicePlan, write_residual};
+use flac_definitions::{Candidate, Choice, RicePlan};
+use flac_plans::write_residual;
 use flac_write::BitWriter;
 use std::alloc::Global;
 use wc_base::NoMemory;

@@ -18,9 +18,9 @@ fn stream(rate: u32, channels: u32, depth: u32) -> StreamInfo {
     }
 }
 
-/// What reading a header of a stream gives, and the place behind it; none for bytes or a depth that no row has.
+/// What reading a header of a stream gives, and the place behind it; none for more bytes than a row has.
 fn read(bytes: &[u8], info: &StreamInfo) -> Option<(Result<FrameHeader, HeaderFault>, u64)> {
-    if bytes.len() > 100 || info.depth > 32 {
+    if bytes.len() > 100 {
         return None;
     }
     let mut reader = BitReader::new(bytes);
@@ -28,9 +28,10 @@ fn read(bytes: &[u8], info: &StreamInfo) -> Option<(Result<FrameHeader, HeaderFa
     Some((header, reader.at()))
 }
 
+/// Whether reading a header has the fault, and leaves the reader where it stood.
 fn is_fault(bytes: &[u8], info: &StreamInfo, fault: HeaderFault) -> bool {
     match read(bytes, info) {
-        Some((Err(found), _)) => found == fault,
+        Some((Err(found), at)) => found == fault && at == 0,
         _ => false,
     }
 }
@@ -138,6 +139,39 @@ fn what_a_description_says_otherwise(rt: HostRuntime) {
         (stream(48000, 1, 24), HeaderField::Rate),
     ] {
         assert!(rt; is_fault(&HEADER, &info, HeaderFault::Differs { field }));
+    }
+}
+
+/// That header, whose depth is the description's.
+const HEADER_WITHOUT_DEPTH: [u8; 7] = [0xff, 0xf8, 0x69, 0x10, 0x00, 0x00, 0xee];
+
+#[test]
+fn a_described_depth_is_1_to_32(rt: HostRuntime) {
+    let fault = HeaderFault::Differs {
+        field: HeaderField::Depth,
+    };
+    for depth in [0, 33, 256, 272] {
+        assert!(rt;
+            is_fault(&HEADER_WITHOUT_DEPTH, &stream(44100, 2, depth), fault),
+            "{depth}"
+        );
+    }
+    for depth in [1u8, 12, 32] {
+        let header = FrameHeader {
+            block: 1,
+            rate: 44100,
+            assignment: 1,
+            depth,
+            number: 0,
+        };
+        assert!(rt;
+            is_header(
+                &HEADER_WITHOUT_DEPTH,
+                &stream(44100, 2, u32::from(depth)),
+                header
+            ),
+            "{depth}"
+        );
     }
 }
 

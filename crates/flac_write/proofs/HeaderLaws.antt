@@ -9,7 +9,7 @@ use Rattle.flac_definitions.specs.Header.{is_block_size_code, is_long_block_size
 use Rattle.flac_definitions.specs.HeaderSpelling.{IsTested, AreCodes, AreFurtherBytes, IsBehindFirstByte, IsCodedNumber, IsBlockSize, IsSampleRate, IsFront, IsDescribed, IsHeader}
 use Rattle.flac_definitions.specs.declared.header.FrameHeader.{FrameHeader}
 use Rattle.flac_definitions.specs.declared.header.HeaderCodes.{HeaderCodes}
-use Rattle.flac_write.specs.Header.{code_for, block_size_code, sample_rate_code, depth_code, further_bits, further_count, long_number_bits, number_bits, size_bits, code_bits, front_bits, header_bits, IsWritable}
+use Rattle.flac_definitions.specs.HeaderWriting.{code_for, block_size_code, sample_rate_code, depth_code, further_bits, further_count, long_number_bits, number_bits, size_bits, code_bits, front_bits, header_bits, IsWritable}
 use Rattle.flac_write.specs.SpellingLaws.{in_order, in_order_given, one_of, other_of}
 
 -- ---- codes

@@ -4,7 +4,7 @@ use Rattle.std.proofs.lemmas.Nat.{one_shl}
 use Rattle.std.proofs.lemmas.Bool.{lt-ltb, le-ltb}
 use Rattle.flac_definitions.specs.Bits.{bits_of}
 use Rattle.flac_definitions.specs.BitLaws.{length-bits_of}
-use Rattle.flac_write.specs.Header.{further_bits, further_count, long_number_bits, number_bits, size_bits, code_bits, front_bits, header_bits, block_size_code}
+use Rattle.flac_definitions.specs.HeaderWriting.{further_bits, further_count, long_number_bits, number_bits, size_bits, code_bits, front_bits, header_bits, block_size_code}
 use Rattle.flac_definitions.specs.declared.header.FrameHeader.{FrameHeader}
 use Rattle.flac_definitions.specs.Sums.{bits_sum}
 

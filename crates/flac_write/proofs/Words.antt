@@ -3,10 +3,10 @@ use Rattle.std.proofs.Common.{ℕ, zero, suc, ◌≡◌, ◌<◌, ◌≤◌, ◌
 use Rattle.std.proofs.Math.Nat.{pow-suc}
 use Rattle.std.proofs.lemmas.Nat.{shl_whole, pow_pos, pow-add, shr_below}
 use Rattle.std.specs.Int.{w64, to_be_bytes, bytes_high_first, byte_at}
-use Rattle.flac_definitions.specs.Bits.{bits_of, bits_in}
+use Rattle.flac_definitions.specs.Bits.{bits_of, bits_in, bits_to_byte}
 use Rattle.flac_definitions.specs.BitLaws.{bits_in-append, length-bits_in, length-bits_of}
 use Rattle.flac_definitions.specs.SumLaws.{front_bytes}
-use Rattle.flac_write.specs.Writer.{written, bits_to_byte}
+use Rattle.flac_write.specs.Writer.{written}
 use Rattle.flac_write.specs.WriterLaws.{bits_cat, bits_split, bits_mod, bits_none}
 
 byte_power : (k : ℕ) → 256 ^ k ≡ 2 ^ (8 * k)

@@ -5,7 +5,7 @@ use Rattle.flac_definitions.specs.Bits.{Begins, forward, start_of}
 use Rattle.flac_definitions.specs.Header.{header_at}
 use Rattle.flac_definitions.specs.HeaderSpelling.{IsHeader, IsDescribed}
 use Rattle.flac_definitions.specs.declared.header.FrameHeader.{FrameHeader}
-use Rattle.flac_write.specs.Header.{IsWritable, header_bits}
+use Rattle.flac_definitions.specs.HeaderWriting.{IsWritable, header_bits}
 
 -- What is written of a header spells it, and where it stands at the start of bytes, the header is read.
 pub record WrittenHeadersAreRead : Type 0 where

@@ -1,4 +1,3 @@
-pub mod Header
 pub mod HeaderLaws
 pub mod SpellingLaws
 pub mod Writer

@@ -1,10 +1,6 @@
 -- Bits that are written in order (RFC 9639, section 5).
-use Rattle.std.specs.Prelude.{ℕ, ◌≡◌, ◌≤◌, ◌<◌, ◌+◌, ◌-◌, ◌%◌, ◌^◌, Bool, List, ◌++◌}
+use Rattle.std.specs.Prelude.{ℕ, ◌≡◌, ◌≤◌, ◌<◌, ◌+◌, ◌^◌, Bool, List, ◌++◌}
 use Rattle.flac_definitions.specs.Bits.{bits_of, bits_in}
-
--- how many bits lack to a byte
-abbrev pub bits_to_byte : ℕ → ℕ
-bits_to_byte n = (8 - n % 8) % 8
 
 -- bits that were there, with a front of those that were to follow: what a want of memory leaves
 pub record IsBegun (before bits after : List Bool) : Type 0 where

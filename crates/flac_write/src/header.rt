@@ -1,7 +1,7 @@
 // Headers of frames, written.
-ghost use Rattle.std.specs.Prelude.{◌≡◌, ◌<◌, ◌≤◌, ◌+◌, ◌-◌, ◌*◌, ◌/◌, ◌%◌, ◌^◌, ◌++◌, [], List, ℕ, length, OnOk};
+ghost use Rattle.std.specs.Prelude.{◌≡◌, ◌<◌, ◌≤◌, ◌+◌, ◌-◌, ◌*◌, ◌/◌, ◌%◌, ◌^◌, ◌++◌, [], List, ℕ, length, OnOk, OnErr};
 ghost use Rattle.flac_definitions.specs.Bits.{bits_of};
-ghost use Rattle.flac_write.specs.Header.{block_size_code, sample_rate_code, depth_code, further_bits, further_count, number_bits, long_number_bits, size_bits, code_bits, front_bits, header_bits, IsWritable};
+ghost use Rattle.flac_definitions.specs.HeaderWriting.{block_size_code, sample_rate_code, depth_code, further_bits, further_count, number_bits, long_number_bits, size_bits, code_bits, front_bits, header_bits, IsWritable};
 
 use crate::writer::BitWriter;
 use flac_definitions::FrameHeader;
@@ -9,8 +9,22 @@ use wc_base::NoMemory;
 
 /// Writes the header of a frame to a writer with no bits: blocking bit 0, the block size and the rate by the codes of
 /// the standard's tables where one fits, the rate else as that of the description, the number in its shortest form,
-/// and the CRC-8 (RFC 9639, section 9.1).
+/// and the CRC-8 (RFC 9639, section 9.1). After a want of memory the writer has no bits.
 pub fn write_header(w: &mut BitWriter, h: &FrameHeader) -> Result<(), NoMemory>
+    requires empty { w.old ≡ [] }
+    requires writable { IsWritable h.now }
+    ensures ok { OnOk result (w.new ≡ header_bits h.now) }
+    ensures err { OnErr result (w.new ≡ w.old) }
+{
+    let written = write_fields(w, h);
+    if written.is_err() {
+        w.clear();
+    }
+    written
+}
+
+/// The header; after a want of memory a front of it may stand there.
+fn write_fields(w: &mut BitWriter, h: &FrameHeader) -> Result<(), NoMemory>
     requires empty { w.old ≡ [] }
     requires writable { IsWritable h.now }
     ensures { OnOk result (w.new ≡ header_bits h.now) }

@@ -1,9 +1,9 @@
 // Bits, written in order.
 ghost use Rattle.std.specs.Prelude.{◌≡◌, ◌<◌, ◌≤◌, ◌+◌, ◌-◌, ◌*◌, ◌/◌, ◌%◌, ◌^◌, ◌++◌, [], List, ℕ, Bool, length, OnOk, OnErr};
 ghost use Rattle.std.specs.Vec.{vec_len, vec_capacity};
-ghost use Rattle.flac_definitions.specs.Bits.{bits_of, bits_in};
+ghost use Rattle.flac_definitions.specs.Bits.{bits_of, bits_in, bits_to_byte};
 ghost use Rattle.flac_definitions.specs.Sums.{bits_sum};
-ghost use Rattle.flac_write.specs.Writer.{written, bits_to_byte, IsBegun, IsPending};
+ghost use Rattle.flac_write.specs.Writer.{written, IsBegun, IsPending};
 
 use flac_bits::{crc8, crc16};
 use std::alloc::Global;
@@ -44,6 +44,16 @@ impl BitWriter {
             last: 0,
             used: 0,
         }
+    }
+
+    /// Takes all bits away. Takes no memory.
+    #[tactic(auto, unfolding(flac_definitions::specs::Bits::bits_of, flac_definitions::specs::Bits::bits_in))]
+    pub fn clear(&mut self)
+        ensures { self.new ≡ [] }
+    {
+        self.bytes.clear();
+        self.last = 0;
+        self.used = 0;
     }
 
     /// Appends the `n` bits of `v`, the most significant first; `n` is at most 64, and `v` below 2^n. After a want of

@@ -8,8 +8,6 @@ use Rattle.wc_config.specs.declared.config.AudioDecoderConfig.{AudioDecoderConfi
 use Rattle.codec_definitions.specs.declared.unit.Unit as media
 use Rattle.codec_definitions.specs.declared.unit.Unit.TheVariants as unit
 use Rattle.codec_model.specs.declared.entry.Opening.{Opening}
-use Rattle.codec_model.specs.declared.entry.Removal.{Removal}
-use Rattle.codec_model.specs.declared.entry.Removal.TheVariants as removal
 use Rattle.codec_model.specs.declared.entry.Call.{Call}
 use Rattle.codec_model.specs.declared.entry.Entry.{Entry}
 use Rattle.codec_model.specs.declared.entry.Event.{Event}
@@ -20,9 +18,9 @@ use Rattle.codec_model.specs.declared.entry.Task.{Task}
 use Rattle.codec_model.specs.declared.entry.Task.TheVariants as task
 use Rattle.codec_model.specs.declared.entry.Ended.{Ended}
 use Rattle.codec_model.specs.Control.{Control, process_queue, at_next_place, run_task, done_running, after_end, carried}
-use Rattle.codec_model.specs.Replay.{State, opening_state, step, replay, replay_from, call_error, removal_error, after_call, accepted, remove_or_refuse, call_step, removal_step}
+use Rattle.codec_model.specs.Replay.{State, opening_state, step, replay, replay_from, accepted, removes}
 use Rattle.codec_model.specs.Shown.{outputs_from, task_shows, task_carried, turn_shows, shows, shown, shown_from, each_shown, each_shown_from, event_units, units_in, outputs_of}
-use Rattle.codec_model.specs.StepLaws.{task_ran, EachStep, by_items, by_steps, by_call, by_removal, Sends, asked, work_of, call_sends, encode_sends, closing_units, turn_units, units_by_turns}
+use Rattle.codec_model.specs.StepLaws.{task_ran, EachStep, by_items, by_removals, by_steps, Sends, asked, call_sends, closing_units, turn_units, units_by_turns}
 use Rattle.history_laws.specs.OutputLaws.{all_append, units_append}
 
 -- ---- what entries show
@@ -49,14 +47,8 @@ process_shown c = by_items (λ (d : Control). d.shown ≡ c.shown) (λ m ms d bl
 sent_shown : (w : Work) (c d : Control) → Sends w c d → d.shown ≡ c.shown
 sent_shown w c d k = let before = asked c k.phase k.key_required k.size k.pending in rw k.is (process_shown (record before { messages = before.messages ++ record { place = c.place; work = w } ∷ [] }))
 
-call_shown : (o : Option DomError) (x : Call) (c : Control) → (after_call o x c).shown ≡ c.shown
-call_shown None x c = sent_shown (work_of x) c (accepted x c) (call_sends x c)
-call_shown (Some error) x c = refl
-
-removal_shown : (o : Option DomError) (r : Removal) (s : State) → (remove_or_refuse o r s).control.shown ≡ s.control.shown
-removal_shown None removal.Reset s = refl
-removal_shown None removal.Close s = refl
-removal_shown (Some error) r s = refl
+removal_shown : (x : Call) (c : Control) → removes x ≡ true → (accepted x c).shown ≡ c.shown
+removal_shown x c is = by_removals (λ y. (accepted y c).shown ≡ c.shown) refl refl x is
 
 end_shown : (r : Running) (e : Ended) (moment : ℕ) (c : Control) → (done_running r e moment c).shown ≡ c.shown
 end_shown r e moment c = by (eqb r.epoch c.epoch)
@@ -82,14 +74,10 @@ same_count m n h = omega (arith, h)
 
 each_counts : EachStep Counts
 each_counts = record {
-  call = λ who x s.
-      let k = same_count _ _ (call_shown (call_error x s.control) x s.control) in
-      by_call (λ e. Counts e s (call_step x s)) who (λ config. k) (λ chunk. k) k x;
-  gone = λ who s. omega arith;
-  kept = λ who s off. omega arith;
-  cloned = λ who x s on. same_count _ _ (sent_shown _ s.control _ (encode_sends x s.control));
-  remove = λ who r s. let k = same_count _ _ (removal_shown (removal_error s.control) r s) in by_removal (λ e. Counts e s (removal_step r s)) who k k r;
-  take = λ who unit s may. omega arith;
+  refused = λ who x error s may e. omega arith;
+  sent = λ who x w s m may e. same_count _ _ (sent_shown w s.control _ (call_sends x w s.control m));
+  removes_all = λ who x s is e. same_count _ _ (removal_shown x s.control is);
+  takes = λ who unit s may. omega arith;
   start = λ i is epoch item s first may. omega arith;
   done = λ r e epoch item moment x s running own is. same_count _ _ (end_shown r e moment (at_next_place s.control));
   turn = λ x ts s first. subst (λ (l : List Task). (task_ran x ts s).control.shown ≡ s.control.shown + length (units_in (turn_shows l s.control))) (sym first) (run_shown x s.control (record (at_next_place s.control) { tasks = ts }));

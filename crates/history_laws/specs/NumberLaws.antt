@@ -4,8 +4,6 @@ use Rattle.std.specs.Prelude.{max, unwrap_or}
 use Rattle.wc_base.specs.declared.error.DomError.{DomError}
 use Rattle.wc_base.specs.Options.{some_same}
 use Rattle.codec_model.specs.declared.entry.Opening.{Opening}
-use Rattle.codec_model.specs.declared.entry.Removal.{Removal}
-use Rattle.codec_model.specs.declared.entry.Removal.TheVariants as removal
 use Rattle.codec_model.specs.declared.entry.Call.{Call}
 use Rattle.codec_model.specs.declared.entry.Entry.{Entry}
 use Rattle.codec_model.specs.declared.entry.Work.{Work}
@@ -16,10 +14,10 @@ use Rattle.codec_model.specs.declared.entry.Task.{Task}
 use Rattle.codec_model.specs.declared.entry.Task.TheVariants as task
 use Rattle.codec_model.specs.declared.entry.Ended.{Ended}
 use Rattle.codec_model.specs.Control.{Control, process_queue, at_next_place, run_task, done_running, after_end, start_first, after_reset, after_close, after_take}
-use Rattle.codec_model.specs.Replay.{State, opening_state, step, removal_error, after_call, call_error, accepted, remove_or_refuse}
+use Rattle.codec_model.specs.Replay.{State, opening_state, step, accepted, removes}
 use Rattle.history_laws.specs.Numbers.{AreItemsUpTo, IsUpTo}
 use Rattle.history_laws.specs.OutputLaws.{all_append}
-use Rattle.codec_model.specs.StepLaws.{EachStep, by_items, by_steps, Sends, asked, work_of, call_sends, encode_sends}
+use Rattle.codec_model.specs.StepLaws.{EachStep, by_items, by_removals, by_steps, Sends, asked, call_sends}
 
 items_up : (n : ℕ) (is : List Item) → AreItemsUpTo n is → AreItemsUpTo (n + 1) is
 items_up n [] h = tt
@@ -83,10 +81,6 @@ sent_up n w c d k h =
       running = (up n c h).running;
     }))
 
-called_up : (n : ℕ) (o : Option DomError) (x : Call) (c : Control) → IsUpTo n c → IsUpTo (n + 1) (after_call o x c)
-called_up n None x c h = sent_up n (work_of x) c (accepted x c) (call_sends x c) h
-called_up n (Some error) x c h = entered n c h
-
 -- ---- removals
 
 reset_up : (n : ℕ) (c : Control) → IsUpTo n c → IsUpTo (n + 1) (after_reset (at_next_place c))
@@ -103,10 +97,8 @@ reset_up n c h = record {
 closed_up : (n : ℕ) (c : Control) → IsUpTo n c → IsUpTo (n + 1) (after_close (at_next_place c))
 closed_up n c h = let r = reset_up n c h in record { place = r.place; epoch = r.epoch; size = r.size; taken = r.taken; next = r.next; queued = r.queued; running = r.running }
 
-removal_up : (n : ℕ) (o : Option DomError) (r : Removal) (s : State) → IsUpTo n s.control → IsUpTo (n + 1) (remove_or_refuse o r s).control
-removal_up n None removal.Reset s h = reset_up n s.control h
-removal_up n None removal.Close s h = closed_up n s.control h
-removal_up n (Some error) r s h = entered n s.control h
+removal_up : (n : ℕ) (x : Call) (c : Control) → removes x ≡ true → IsUpTo n c → IsUpTo (n + 1) (accepted x c)
+removal_up n x c is h = by_removals (λ y. IsUpTo (n + 1) (accepted y c)) (reset_up n c h) (closed_up n c h) x is
 
 -- ---- starts and ends
 
@@ -161,12 +153,10 @@ taken_by n c h = same_up (n + 1) (at_next_place c) (after_take (at_next_place c)
 
 each_up : (n : ℕ) → EachStep (λ e s t. IsUpTo n s.control → IsUpTo (n + 1) t.control)
 each_up n = record {
-  call = λ who x s h. called_up n (call_error x s.control) x s.control h;
-  gone = λ who s h. entered n s.control h;
-  kept = λ who s off h. entered n s.control h;
-  cloned = λ who x s on h. sent_up n _ s.control _ (encode_sends x s.control) h;
-  remove = λ who r s h. removal_up n (removal_error s.control) r s h;
-  take = λ who unit s may h. taken_by n s.control h;
+  refused = λ who x error s may e h. entered n s.control h;
+  sent = λ who x w s m may e h. sent_up n w s.control _ (call_sends x w s.control m) h;
+  removes_all = λ who x s is e h. removal_up n x s.control is h;
+  takes = λ who unit s may h. taken_by n s.control h;
   start = λ i is epoch item s first may h. begun_up n i is s.control first h;
   done = λ r e epoch item moment x s running own is h. done_up n r e moment s.control h;
   turn = λ x ts s first h. run_up n x ts s.control h;

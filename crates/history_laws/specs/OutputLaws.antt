@@ -11,8 +11,6 @@ use Rattle.codec_definitions.specs.declared.unit.Unit.TheVariants as unit
 use Rattle.codec_definitions.specs.declared.command.Command.{Command}
 use Rattle.codec_definitions.specs.declared.command.Command.TheVariants as command
 use Rattle.codec_model.specs.declared.entry.Opening.{Opening}
-use Rattle.codec_model.specs.declared.entry.Removal.{Removal}
-use Rattle.codec_model.specs.declared.entry.Removal.TheVariants as removal
 use Rattle.codec_model.specs.declared.entry.Call.{Call}
 use Rattle.codec_model.specs.declared.entry.Entry.{Entry}
 use Rattle.codec_model.specs.declared.entry.Entry.TheVariants as entry
@@ -30,11 +28,11 @@ use Rattle.codec_model.specs.declared.entry.Ended.{Ended}
 use Rattle.codec_model.specs.declared.entry.Ended.TheVariants as ended
 use Rattle.codec_model.specs.declared.entry.Outcome.{Outcome}
 use Rattle.codec_model.specs.Control.{Control, process_queue, at_next_place, run_task, done_running, after_end, is_dequeue, is_desaturate, with_desaturate, after_reset, after_close, after_take, carried, is_active}
-use Rattle.codec_model.specs.Replay.{State, Given, command_of, decoder_config, labelled, given_more, answer_to, opening_state, nothing_given, step, ended_of, removal_error, after_call, call_error, accepted, remove_or_refuse, removed, with_control}
+use Rattle.codec_model.specs.Replay.{State, Given, command_of, decoder_config, labelled, given_more, answer_to, opening_state, nothing_given, step, ended_of, accepted, removes, removed, with_control}
 use Rattle.codec_model.specs.Shown.{outputs_from, turn_shows, shows, event_units, units_in, each_shown, each_shown_from}
 use Rattle.history_laws.specs.Outputs.{IsOwnCommand, IsOwnWork, MayCarry, Judge, HoldsOwn, own_call}
 use Rattle.history_laws.specs.Answers.{ran_answer, answer_where}
-use Rattle.codec_model.specs.StepLaws.{given_past, begun, task_ran, EachStep, by_items, by_work, by_steps, Sends, asked, work_of, call_sends, encode_sends, closing_units, turn_units, units_by_turns}
+use Rattle.codec_model.specs.StepLaws.{given_past, begun, task_ran, EachStep, by_items, by_removals, by_work, by_steps, Sends, asked, call_sends, closing_units, turn_units, units_by_turns}
 
 pub all_append : {X : Type 0} (P : X → Type 0) (xs ys : List X) → AllByRecursion P xs → AllByRecursion P ys → AllByRecursion P (xs ++ ys)
 all_append P [] ys h k = k
@@ -136,10 +134,6 @@ sent_own k w c d s own h =
     let m : Message = record { place = c.place; work = w } in
     rw s.is (processed_own k (record before { messages = before.messages ++ m ∷ [] }) (same_own k _ _ refl refl refl (queued_own k c m h own)))
 
-called_own : (k : Judge) (o : Option DomError) (x : Call) (c : Control) → (o ≡ None → HoldsWork k (work_of x)) → OwnControl k c → OwnControl k (after_call o x c)
-called_own k None x c own h = sent_own k (work_of x) c (accepted x c) (call_sends x c) (own refl) h
-called_own k (Some error) x c own h = same_own k c _ refl refl refl h
-
 -- ---- removals
 
 filtered_own : (k : Judge) (ts : List Task) → AreOwnTasks k ts → AreOwnTasks k (filter is_dequeue ts)
@@ -171,10 +165,10 @@ entered_own k c h = same_own k c (at_next_place c) refl refl refl h
 closed_own : (k : Judge) (c : Control) → OwnControl k c → OwnControl k (after_close c)
 closed_own k c h = same_own k (after_reset c) (after_close c) refl refl refl (reset_own k c h)
 
-removal_own : (k : Judge) (o : Option DomError) (r : Removal) (s : State) → Own k s → Own k (remove_or_refuse o r s)
-removal_own k None removal.Reset s own = removed_own k _ s (reset_own k (at_next_place s.control) (entered_own k s.control own.control)) own
-removal_own k None removal.Close s own = removed_own k _ s (closed_own k (at_next_place s.control) (entered_own k s.control own.control)) own
-removal_own k (Some error) r s own = with_own k (at_next_place s.control) s (entered_own k s.control own.control) own
+removal_own : (k : Judge) (x : Call) (s : State) → removes x ≡ true → Own k s → Own k (removed (accepted x s.control) s)
+removal_own k x s is own = by_removals (λ y. Own k (removed (accepted y s.control) s))
+    (removed_own k _ s (reset_own k (at_next_place s.control) (entered_own k s.control own.control)) own)
+    (removed_own k _ s (closed_own k (at_next_place s.control) (entered_own k s.control own.control)) own) x is
 
 -- ---- starts
 
@@ -258,12 +252,10 @@ entry_own k s h = with_own k _ s (entered_own k s.control h.control) h
 
 each_own : (k : Judge) → EachStep (λ e s t. HoldsOwn k e → Own k s → Own k t)
 each_own k = record {
-  call = λ who x s own h. with_own k _ s (called_own k (call_error x s.control) x s.control (own_call k.config k.chunk k.sound who x s.control own) h.control) h;
-  gone = λ who s own h. entry_own k s h;
-  kept = λ who s off own h. entry_own k s h;
-  cloned = λ who x s on own h. with_own k _ s (sent_own k _ s.control _ (encode_sends x s.control) own h.control) h;
-  remove = λ who r s own h. removal_own k (removal_error s.control) r s h;
-  take = λ who unit s may own h. with_own k _ s (same_own k s.control (after_take (at_next_place s.control)) refl refl refl h.control) h;
+  refused = λ who x error s may e own h. entry_own k s h;
+  sent = λ who x w s m may e own h. with_own k _ s (sent_own k w s.control _ (call_sends x w s.control m) (own_call k.config k.chunk k.sound who x w s.control own m e) h.control) h;
+  removes_all = λ who x s is e own h. removal_own k x s is h;
+  takes = λ who unit s may own h. with_own k _ s (same_own k s.control (after_take (at_next_place s.control)) refl refl refl h.control) h;
   start = λ i is epoch item s first may own h. begun_own k i is s first h;
   done = λ r e epoch item moment x s running this is own h. ended_own k r e moment x s is h;
   turn = λ x ts s first own h. task_ran_own k x ts s first h;

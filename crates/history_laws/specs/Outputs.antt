@@ -1,6 +1,8 @@
 -- What a judge says of configs, inputs and outputs, where a codec's definition gives outputs that pass for configs and inputs
 -- that pass.
-use Rattle.std.proofs.Common.{◌≡◌, ◌*◌, Bool, true, false, cond, List, length, Option, Some, None, is_some, refl}
+use Rattle.std.proofs.Common.{◌≡◌, ◌*◌, Bool, true, false, cond, List, length, Option, Some, None, is_some, refl, subst}
+use Rattle.std.specs.Prelude.{unwrap_or}
+use Rattle.wc_base.specs.Options.{some_same}
 use Rattle.std.specs.List.{AllByRecursion}
 use Rattle.wc_base.specs.declared.error.DomError.{DomError}
 use Rattle.wc_base.specs.declared.error.DomError.TheVariants as dom
@@ -27,8 +29,7 @@ use Rattle.codec_model.specs.declared.entry.Call.TheVariants as call
 use Rattle.codec_model.specs.declared.entry.Work.{Work}
 use Rattle.codec_model.specs.declared.entry.Work.TheVariants as work
 use Rattle.codec_model.specs.Control.{Control}
-use Rattle.codec_model.specs.Replay.{command_of, decoder_config, call_error, entry_of}
-use Rattle.codec_model.specs.StepLaws.{work_of}
+use Rattle.codec_model.specs.Replay.{command_of, decoder_config, call_error, message_of}
 
 -- a command whose chunk or samples, if it has them, pass; a codec is given no pictures yet
 abbrev pub IsOwnCommand : (Chunk → Type 0) → (Samples → Type 0) → Command → Type 0
@@ -67,9 +68,9 @@ IsOwnWork config chunk sound work.Flush = Unit {0}
 
 -- the config or input of an entry passes, where it has one; a config that is not valid is not looked at
 abbrev pub IsOwnEntry : (Config → Type 0) → (Chunk → Type 0) → (Samples → Type 0) → Entry → Type 0
-IsOwnEntry config chunk sound (entry.Configure who c) = is_valid c ≡ true → config c
-IsOwnEntry config chunk sound (entry.Decode who c) = chunk c
-IsOwnEntry config chunk sound (entry.Encode who (handed.Cloned x)) = sound x.samples
+IsOwnEntry config chunk sound (entry.Call who (call.Configure c)) = is_valid c ≡ true → config c
+IsOwnEntry config chunk sound (entry.Call who (call.Decode c)) = chunk c
+IsOwnEntry config chunk sound (entry.Call who (call.Encode (handed.Cloned x))) = sound x.samples
 IsOwnEntry config chunk sound e = Unit {0}
 
 abbrev pub HoldsOwn : Judge → Entry → Type 0
@@ -78,20 +79,29 @@ HoldsOwn k e = IsOwnEntry k.config k.chunk k.sound e
 module _ (config : Config → Type 0) (chunk : Chunk → Type 0) (sound : Samples → Type 0) where
   -- where all pass, all entries do
   pub all_own : ((c : Config) → config c) → ((c : Chunk) → chunk c) → ((x : Samples) → sound x) → (e : Entry) → IsOwnEntry config chunk sound e
-  all_own configs chunks sounds (entry.Configure who c) = λ valid. configs c
-  all_own configs chunks sounds (entry.Decode who c) = chunks c
-  all_own configs chunks sounds (entry.Encode who (handed.Cloned x)) = sounds x.samples
+  all_own configs chunks sounds (entry.Call who (call.Configure c)) = λ valid. configs c
+  all_own configs chunks sounds (entry.Call who (call.Decode c)) = chunks c
+  all_own configs chunks sounds (entry.Call who (call.Encode (handed.Cloned x))) = sounds x.samples
   all_own configs chunks sounds e = tt
 
   -- what a call that is not refused asks for passes where its entry does
-  pub own_call : (who : Who) (x : Call) (c : Control) → IsOwnEntry config chunk sound (entry_of who x) → call_error x c ≡ None → IsOwnWork config chunk sound (work_of x)
-  own_call who (call.Configure given) c own taken = own (accepted_valid (is_valid given) _ taken)
+  pub own_call : (who : Who) (x : Call) (w : Work) (c : Control) → IsOwnEntry config chunk sound (entry.Call who x) → message_of x ≡ Some w → call_error x c ≡ None → IsOwnWork config chunk sound w
+  own_call who x w c own m taken = subst (λ (v : Work). IsOwnWork config chunk sound v) (some_same (unwrap_or (message_of x) w) w (is_there (message_of x) m)) (by x m own taken)
     where
+      is_there : (o : Option Work) → o ≡ Some w → Some (unwrap_or o w) ≡ Some w
+      is_there None h = absurd cc
+      is_there (Some v) h = h
+
       accepted_valid : (b : Bool) (o : Option DomError) → cond b o (Some dom.TypeErr) ≡ None → b ≡ true
       accepted_valid true o h = refl
       accepted_valid false o h = absurd cc
-  own_call who (call.Decode given) c own taken = own
-  own_call who call.Flush c own taken = tt
+
+      by : (x : Call) → message_of x ≡ Some w → IsOwnEntry config chunk sound (entry.Call who x) → call_error x c ≡ None → IsOwnWork config chunk sound (unwrap_or (message_of x) w)
+      by (call.Configure given) m own taken = own (accepted_valid (is_valid given) _ taken)
+      by (call.Decode given) m own taken = own
+      by (call.Encode (handed.Cloned given)) m own taken = own
+      by call.Flush m own taken = tt
+      by x m own taken = absurd cc
 
 -- samples or a picture with as many bytes as their shape asks for
 abbrev pub IsWholeUnit : media.Unit → Type 0

@@ -6,8 +6,8 @@ use Rattle.wc_config.specs.declared.config.AudioEncoderConfig.{AudioEncoderConfi
 use Rattle.wc_config.specs.Configs.{audio_codec, is_flac}
 use Rattle.flac_definitions.specs.Bits.{number_of}
 use Rattle.flac_definitions.specs.BitLaws.{IsBytes, length-bits_of, length-bits_in, number_of_take-lt}
-use Rattle.flac_description.specs.Descriptions.{description_bits}
-use Rattle.flac_blocks.specs.Frames.{frame_bits}
+use Rattle.flac_definitions.specs.Descriptions.{description_bits}
+use Rattle.flac_definitions.specs.FrameWriting.{frame_bits}
 use Rattle.codec_definitions.specs.FlacCode.{format_of, apart, bytes_with, flac_code, stream_of, stream_description}
 use Rattle.coder_api.specs.Meaning.{description_for}
 

@@ -1,5 +1,5 @@
 -- Every output of a legal history has as many bytes as its shape asks for.
-use Rattle.std.proofs.Common.{ℕ, zero, suc, ℤ, ◌≡◌, ◌+◌, ◌-◌, ◌*◌, ◌/◌, ◌%◌, ◌^◌, ◌<◌, not, Bool, true, false, cond, List, [], ◌∷◌, ◌++◌, length, length-append, take, drop, Option, Some, None, Result, Ok, Err, refl, ap, sym, subst, ◌∙◌, mul_assoc, mul_comm, div-add-mod', arith}
+use Rattle.std.proofs.Common.{ℕ, zero, suc, ℤ, ◌≡◌, ◌+◌, ◌-◌, ◌*◌, ◌/◌, ◌%◌, ◌^◌, ◌<◌, ◌&&◌, not, Bool, true, false, cond, List, [], ◌∷◌, ◌++◌, length, length-append, take, drop, Option, Some, None, Result, Ok, Err, refl, ap, sym, subst, ◌∙◌, mul_assoc, mul_comm, div-add-mod', arith}
 use Rattle.std.specs.Prelude.{◌==◌, nat_le, nat_lt, pos, ◌*ℤ◌, slice_index_or as get_or}
 use Rattle.std.specs.List.{AllByRecursion, flat_map, range_with_len, list_any}
 use Rattle.std.proofs.lemmas.Bool.{and_parts, eqb-true}
@@ -19,7 +19,7 @@ use Rattle.flac_definitions.specs.Bits.{Place, start_of}
 use Rattle.flac_definitions.specs.Options.{◌>>=◌}
 use Rattle.flac_definitions.specs.Results.{without_fault}
 use Rattle.flac_definitions.specs.Results as result
-use Rattle.flac_definitions.specs.Header.{block_size_at, codes_at, coded_number_at, sample_rate_at, header_sum_at, channels_of, if_described, header_at}
+use Rattle.flac_definitions.specs.Header.{block_size_at, codes_at, coded_number_at, sample_rate_at, header_sum_at, channels_of, is_stream_depth, if_described, header_at}
 use Rattle.flac_definitions.specs.Subframe.{channels_at}
 use Rattle.flac_definitions.specs.Frame.{footer_at, with_header, frame_at, if_all_bytes, frame_of}
 use Rattle.picture_planes.specs.Planes.{picture_size}
@@ -116,8 +116,8 @@ agreed true true true d e f x y h = (refl, refl, cc)
 
 described_agrees : (info : StreamInfo) (h y : FrameHeader × Place) → if_described info h ≡ Ok y → Agrees info y.0
 described_agrees info h y is =
-    let k = agreed (h.0.rate == info.rate) (channels_of h.0.assignment == info.channels) (h.0.depth == info.depth) (fault.Differs field.Rate) (fault.Differs field.Channels) (fault.Differs field.Depth) h y is in
-    subst (λ (z : FrameHeader × Place). Agrees info z.0) k.2 (eqb-true (channels_of h.0.assignment) info.channels k.0, eqb-true h.0.depth info.depth k.1)
+    let k = agreed (h.0.rate == info.rate) (channels_of h.0.assignment == info.channels) (is_stream_depth info.depth && (h.0.depth == info.depth)) (fault.Differs field.Rate) (fault.Differs field.Channels) (fault.Differs field.Depth) h y is in
+    subst (λ (z : FrameHeader × Place). Agrees info z.0) k.2 (eqb-true (channels_of h.0.assignment) info.channels k.0, eqb-true h.0.depth info.depth (and_parts (is_stream_depth info.depth) (h.0.depth == info.depth) k.1).1)
 
 header_agrees : (info : StreamInfo) (p : Place) (h : FrameHeader × Place) → header_at info p ≡ Ok h → Agrees info h.0
 unfolding header_at

@@ -7,7 +7,7 @@ use Rattle.std.proofs.lemmas.Option.{slice_get_within}
 use Rattle.wc_base.specs.declared.who.By.{By}
 use Rattle.wc_pool.specs.{declared.entry.PoolEntry.PoolEntry, declared.entry.PoolOp.PoolOp, Bag.resource_of, Bag.references_made}
 use Rattle.wc_pool.specs.Laws.{LiveAreNumbered}
-use Rattle.codec_model.specs.{declared.entry.Handed.Handed, declared.entry.Entry.Entry, declared.entry.Pair.Pair, Replay.State}
+use Rattle.codec_model.specs.{declared.entry.Handed.Handed, declared.entry.Call.Call, declared.entry.Entry.Entry, declared.entry.Pair.Pair, Replay.State}
 use Rattle.codec_model.specs.Held.{adds_held, lets_go, leaves_held}
 use Rattle.script_types.specs.declared.steps.{MediaStep.MediaStep, Step.Step}
 use Rattle.media_variables.specs.Variables.{Medium, Media, Brought}
@@ -65,7 +65,7 @@ part_apart pool callers held part w h = record {
 
 grows_by : (cause : By) (pool : List PoolEntry) (callers : List (List (Option Medium))) (e : Entry) (s : State) → ((f r : ℕ) → resource_of f pool ≡ Some r → f < references_made pool)
     → ((i : ℕ) (p : Pair) → slice_get (adds_held e) i ≡ Some p → MayAdd pool p) → AreApart pool callers (lets_go e s) → Grows cause pool (pool_by cause e s pool) (lets_go e s) (adds_held e)
-grows_by cause pool callers (Entry.Encode who (Handed.Cloned sound)) s numbered may ends = clone_grows cause pool sound.pair (may 0 sound.pair refl) numbered
+grows_by cause pool callers (Entry.Call who (Call.Encode (Handed.Cloned sound))) s numbered may ends = clone_grows cause pool sound.pair (may 0 sound.pair refl) numbered
 grows_by cause pool callers e s numbered may ends = ends_grow cause pool callers (lets_go e s) ends
 
 -- ---- all of it

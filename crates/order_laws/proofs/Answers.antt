@@ -32,7 +32,7 @@ pub record OwnFacts (s : ScriptData) (files : List (List Chunk)) (w : Recorded) 
 pub own_facts : (s : ScriptData) (files : List (List Chunk)) (w : Recorded) (pool : List PoolEntry) (who : Who) (chunk : Option Chunk) (before vs : List (Option Medium)) (y : Came) (c : ℕ) (x : MediaStep) (r : StepResult)
     → media_came pool who (brought chunk None) x vs ≡ Some y → IsOwn r → r ≡ y.answer → OwnFacts s files w who before y c x r
 own_facts s files w pool who chunk before vs y c x (StepResult.Call k place error) comes own same = absurd cc
-own_facts s files w pool who chunk before vs y c (MediaStep.Take on bind kind) r comes own same = absurd cc
+own_facts s files w pool who chunk before vs y c (MediaStep.CloseData of) r comes own same = search rules
 own_facts s files w pool who chunk before vs y c x r comes own same = search rules
 
 -- ---- copies and sizes

@@ -18,10 +18,10 @@ use Rattle.codec_model.specs.Held.{adds_held, lets_go, leaves_held, running_pair
 use Rattle.codec_accounts.specs.{Owed.at, Calls.who_of}
 use Rattle.codec_accounts.specs.ListLaws.{IsNew, at_same, at_other, at_grows, get_end, get_within, result_more}
 use Rattle.codec_accounts.specs.Codec.{CodecValue, state_after, state_of, codec_at, histories, after_entry, slots_after, next_by, step_by, BoxStep, Keep, Give, Renew}
-use Rattle.codec_accounts.specs.AccountLaws.{EntryFits, histories_more, history_at, histories_count, set_here, set_other, set_count}
+use Rattle.codec_accounts.specs.AccountLaws.{EntryFits, histories_more, history_at, histories_count, set_here, set_other}
 use Rattle.script_types.specs.declared.script.ScriptData.{ScriptData}
 use Rattle.media_accounts.specs.Accounts.{called_at, lent_at, Lending, MayAdd, AreParts, EntryMore}
-use Rattle.trace_text.specs.Follow.{Course, opening_at, with_entry, outcome_by, outcome_for}
+use Rattle.trace_text.specs.Follow.{Course, opening_at, with_entry, take_entry, outcome_by, outcome_for}
 use Rattle.order_laws.specs.Course.{held_by_codecs}
 
 -- ---- legal entries
@@ -45,7 +45,7 @@ pub shown_last : (o : Opening) (h : List Entry) (e : Entry) → IsLegal o h → 
 shown_last o h e l = let r = some_is (replay o h) (opening_state o) l in rw (each_more o h e (state_after o h) r, sym (each_length o h (state_after o h) r)) (get_end (each_shown o h) (shown_at e (state_after o h)))
 
 -- a take of the first output that was shown and not taken yet
-pub take_legal : (who : Who) (s : State) → s.control.taken < s.control.shown → Steps (Entry.Take who s.control.taken) s
+pub take_legal : (who : Who) (s : State) → s.control.taken < s.control.shown → Steps (take_entry who s.control.taken) s
 take_legal who s lt = rw (eq-eqb s.control.taken s.control.taken refl, lt-ltb s.control.taken s.control.shown lt) refl
 
 start_on : (is : List Item) (i : Item) (s : State) → may_start s.control ≡ true → front is ≡ Some i → is_some (start_step is s.control.epoch i.number s) ≡ true

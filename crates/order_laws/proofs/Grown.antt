@@ -8,10 +8,10 @@ use Rattle.codec_definitions.specs.declared.unit.Unit as media
 use Rattle.codec_model.specs.{declared.entry.Entry.Entry, Replay.IsLegal}
 use Rattle.history_laws.specs.CountLaws.{outputs_stay}
 use Rattle.codec_accounts.specs.{Owed.at, ListLaws.get_some, ListLaws.get_kept}
-use Rattle.script_types.specs.declared.{script.ScriptData.ScriptData, steps.Step.Step, steps.MediaStep.MediaStep}
+use Rattle.script_types.specs.declared.{script.ScriptData.ScriptData, steps.Step.Step}
 use Rattle.script_types.specs.Names.{called, taken_from}
 use Rattle.report_text.specs.declared.result.StepResult.{StepResult}
-use Rattle.trace_text.specs.Follow.{Recorded, opening_at, output_at}
+use Rattle.trace_text.specs.Follow.{Recorded, opening_at, output_at, take_entry}
 use Rattle.trace_text.specs.Fits.{result_in, step_in, made_steps, taken_by, brought_to, came_at, variables_at, IsResultBy, IsResultOf, LookShows, IsLocalAnswer, MarksClimb}
 use Rattle.media_variables.specs.Variables.{Came, Taken, Brought}
 use Rattle.media_accounts.specs.Accounts.{variables_by, IsBroughtToo}
@@ -68,7 +68,7 @@ module _ (s : ScriptData) (w v : Recorded) (g : Grows w v) where
   made_stays : Legals s w → (who : Who) (t o : Option ℕ) (r : StepResult) → ((k p : ℕ) → made_at r ≡ Some (k, p) → p < length (at k w.codecs)) → IsResultBy s w who t o r → IsResultBy s v who t o r
   made_stays legal who None (Some k) (StepResult.Call other p error) within h =
       let m = g.more k in (h.0, rw (m.1, shown_kept (opening_at s k) (at k w.codecs) m.0 p (legal k) (rw h.0 at (within other p refl))) h.1)
-  made_stays legal who (Some k) o (StepResult.Unit other p n) within h = (let m = g.more k in (h.0, rw m.1 (get_kept (at k w.codecs) m.0 p (Entry.Take who n) h.1)))
+  made_stays legal who (Some k) o (StepResult.Unit other p n) within h = (let m = g.more k in (h.0, rw m.1 (get_kept (at k w.codecs) m.0 p (take_entry who n) h.1)))
   made_stays legal who t o StepResult.Absent within h = h
   made_stays legal who t o r within h = h
 
@@ -100,7 +100,7 @@ module _ (s : ScriptData) (w v : Recorded) (g : Grows w v) where
   shows_stays c (Step.Await promise) (StepResult.Look k n end) within h = (h.0, h.1, g.stays c promise.step (StepResult.Call k h.0 h.1) h.2, rw (front_stays k n (within k n refl)) h.3)
   shows_stays c (Step.Poll promise) (StepResult.Look k n end) within h = (h.0, h.1, g.stays c promise.step (StepResult.Call k h.0 h.1) h.2, rw (front_stays k n (within k n refl)) h.3)
   shows_stays c (Step.State on) (StepResult.State k n state size) within h = rw (front_stays k n (within k n refl)) h
-  shows_stays c (Step.Media (MediaStep.Take on bind kind)) (StepResult.NoUnit k n) within h = rw (front_stays k n (within k n refl)) h
+  shows_stays c x (StepResult.NoUnit k n) within h = rw (front_stays k n (within k n refl)) h
   shows_stays c x StepResult.Absent within h = h
   shows_stays c x r within h = h
 

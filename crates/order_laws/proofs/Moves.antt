@@ -15,10 +15,10 @@ use Rattle.slot_registry.specs.Slots.{SlotsValue}
 use Rattle.wc_chunk.specs.declared.chunk.Chunk.{Chunk}
 use Rattle.codec_definitions.specs.declared.unit.Unit as output
 use Rattle.codec_definitions.specs.declared.unit.Unit.TheVariants as unit
-use Rattle.codec_model.specs.declared.entry.{Opening.Opening, Call.Call, Entry.Entry, Item.Item, Removal.Removal, Running.Running, Task.Task}
-use Rattle.codec_model.specs.{Control.start_item, Control.may_reclaim, Held.HeldStays, StepLaws.turn_made}
-use Rattle.codec_model.specs.Replay.{State, step as entry_step, entry_of, removal_entry, call_error, encode_error, is_configured, removal_error, answer_to}
-use Rattle.codec_model.specs.Shown.{refusal, rejection, removal_shows, shows, shown, outputs_of, exception_of}
+use Rattle.codec_model.specs.declared.entry.{Opening.Opening, Call.Call, Entry.Entry, Item.Item, Running.Running, Task.Task}
+use Rattle.codec_model.specs.{Control.Control, Control.start_item, Control.may_reclaim, Held.HeldStays, StepLaws.turn_made}
+use Rattle.codec_model.specs.Replay.{State, step as entry_step, call_error, may_call, may_hand, is_configured, answer_to}
+use Rattle.codec_model.specs.Shown.{call_shows, shows, shown, outputs_of, exception_of}
 use Rattle.history_laws.specs.CountLaws.{shown_counted}
 use Rattle.codec_accounts.specs.{Owed.at, Owed.append_at, StartLaws.EndFits}
 use Rattle.codec_accounts.specs.ListLaws.{append_at_length, at_same, at_other, get_some, get_end, result_kept, result_new, result_more}
@@ -31,9 +31,9 @@ use Rattle.script_types.specs.declared.{script.OrderItem.OrderItem, script.Scrip
 use Rattle.report_text.specs.declared.result.StepResult.{StepResult}
 use Rattle.trace_text.specs.Report.{refusal_in}
 use Rattle.media_variables.specs.Held.{held_by}
-use Rattle.media_variables.specs.Variables.{Reference, Shape, SoundOf, Medium, Media, Came, Brought, medium_at, media_ref, sound_of, sound_in, sound_at, handed_by, handed_of, media_came, taken_came, unit_came, variables_of}
+use Rattle.media_variables.specs.Variables.{Reference, Shape, SoundOf, Medium, Media, Came, Brought, medium_at, media_ref, sound_of, sound_in, sound_at, handed_by, media_came, taken_came, unit_came, variables_of}
 use Rattle.media_accounts.specs.Accounts.{media_of, OneMore, IsQuiet, MediaStand, StepStands, NothingStands, StepsStand, OthersStand, LaterStand, LaterStands, EntryStands, EntriesStand}
-use Rattle.trace_text.specs.Follow.{Recorded, Course, record_of, opening_at, promise_after, steps_of, chunk_for, source_error, output_at, with_result, with_entry, Move, Answer, Ask, Handle, Receive, after_move, follow_item, handle_move, take_move, copied_chunk, outcome_for, end_of, turn_on, item_entry, advance, decode_move, is_gone, encode_move, look_of_state, step_move, next_move}
+use Rattle.trace_text.specs.Follow.{Recorded, Course, record_of, opening_at, promise_after, steps_of, chunk_for, source_error, output_at, with_result, with_entry, Move, Answer, Ask, Handle, Receive, after_move, follow_item, handle_move, take_move, copied_chunk, outcome_for, end_of, turn_on, item_entry, advance, call_move, encode_of, result_of, look_of_state, step_move, next_move}
 use Rattle.trace_text.specs.Fits.{result_in, entry_in, step_in, exception_at, mark_of, marks_of, taken_by, brought_to, made_steps, came_at, variables_at, IsResultOf, LookShows, IsLocalAnswer, HasArguments, ArgumentsAreIn, MarksClimb}
 use Rattle.script_types.specs.{Names.called, Names.taken_from, Names.looked_at, Names.IsFlush, SoundLaws.called_is_named}
 use Rattle.order_laws.specs.Sound.{IsSound}
@@ -124,9 +124,9 @@ call_marked v c k e r lt names marks n = rw marks (elim (cases_eq n k) [
       )
 ])
 
--- an entry has what its caller's step gives
-abbrev HasStep : ScriptData → List (List Chunk) → Recorded → Who → Entry → Type 0
-HasStep s media w who e = (x : Step) × (step_in s who.caller who.step ≡ Some x) × HasArguments s media (variables_at s media w who.caller who.step) who e x
+-- a call has what its caller's step gives
+abbrev HasStep : ScriptData → List (List Chunk) → Recorded → Who → Call → Type 0
+HasStep s media w who x = (y : Step) × (step_in s who.caller who.step ≡ Some y) × HasArguments s media (variables_at s media w who.caller who.step) who.caller x y
 
 -- ---- what grows
 
@@ -182,26 +182,13 @@ legal_after e t steps = (unwrap_or (entry_step e t) t, some_is (entry_step e t) 
 
 -- ---- calls
 
-refused_by : (o : Option DomError) → o ≡ refusal_in (refusal o)
-refused_by None = refl
-refused_by (Some error) = refl
-
-removal_is_shown : (o : Option DomError) (pending : List ℕ) → o ≡ refusal_in (removal_shows o pending)
-removal_is_shown None (p ∷ ps) = refl
-removal_is_shown o pending = refl
-
--- an entry is legal, this exception is what it shows, and what it adds may be added
-abbrev Said : List PoolEntry → State → Entry → Option DomError → Type 0
-Said pool t e error = Steps e t × (error ≡ refusal_in (shows e t)) × MayAddAll pool e
-
-call_said : (pool : List PoolEntry) (who : Who) (x : Call) (t : State) → Said pool t (entry_of who x) (exception_of x (call_error x t.control))
-call_said pool who Call.Flush t =
-    (refl, elim (call_error Call.Flush t.control) as (λ (o : Option DomError). None ≡ refusal_in (rejection t.control.place o)) [ None ↦ refl | Some error ↦ refl ], λ i p at. absurd cc)
-call_said pool who x t = (refl, refused_by (call_error x t.control), λ i p at. absurd cc)
-
-removal_said : (pool : List PoolEntry) (who : Who) (r : Removal) (t : State) → Said pool t (removal_entry who r) (removal_error t.control)
-removal_said pool who Removal.Reset t = (refl, removal_is_shown (removal_error t.control) t.control.pending, λ i p at. absurd cc)
-removal_said pool who Removal.Close t = (refl, removal_is_shown (removal_error t.control) t.control.pending, λ i p at. absurd cc)
+-- a call's exception is what it shows
+exception_shown : (x : Call) (place : ℕ) (pending : List ℕ) (o : Option DomError) → exception_of x o ≡ refusal_in (call_shows x place pending o)
+exception_shown Call.Reset place (p ∷ ps) None = refl
+exception_shown Call.Close place (p ∷ ps) None = refl
+exception_shown x place pending None = refl
+exception_shown Call.Flush place pending (Some error) = refl
+exception_shown x place pending (Some error) = refl
 
 -- ---- looks
 
@@ -237,13 +224,12 @@ only_one : {X : Type 0} (x : X) (i : ℕ) (p : X) → slice_get (x ∷ []) i ≡
 only_one x zero p is = cc
 only_one x (suc i) p is = absurd cc
 
--- what is handed over is legal where it tells whether the codec is configured, its exception is what its entry shows, and it
--- adds a reference to what is held
-encode_said : (pool : List PoolEntry) (who : Who) (shape : SoundShape) (held : Option MediaRef) (t : State) (b : Bool) → is_configured t.control ≡ b → ((r : MediaRef) → held ≡ Some r → is_held r.resource pool ≡ true)
-    → let h = handed_by (references_made pool) b shape held in Said pool t (Entry.Encode who h) (encode_error (is_gone h) t.control)
-encode_said pool who shape None t b is lives = (refl, refl, λ i p at. absurd cc)
-encode_said pool who shape (Some r) t false is lives = (rw is refl, rw is refl, λ i p at. absurd cc)
-encode_said pool who shape (Some r) t true is lives = (rw is refl, rw is refl, λ i p at. rw (only_one (record { resource = r.resource; reference = references_made pool }) i p at) (lives r refl, refl))
+-- what is handed over may be where it tells whether the codec is configured, and a clone adds a reference to what is held
+handed_may : (pool : List PoolEntry) (who : Who) (shape : SoundShape) (held : Option MediaRef) (c : Control) (b : Bool) → is_configured c ≡ b → ((r : MediaRef) → held ≡ Some r → is_held r.resource pool ≡ true)
+    → let h = handed_by (references_made pool) b shape held in (may_hand h c ≡ true) × MayAddAll pool (Entry.Call who (Call.Encode h))
+handed_may pool who shape None c b is lives = (refl, λ i p at. absurd cc)
+handed_may pool who shape (Some r) c false is lives = (rw is refl, λ i p at. absurd cc)
+handed_may pool who shape (Some r) c true is lives = (is, λ i p at. rw (only_one (record { resource = r.resource; reference = references_made pool }) i p at) (lives r refl, refl))
 
 -- the reference of audio data is that of its variable
 sound_held : (m : Option Medium) (x : Sound) (r : MediaRef) → option_and_then sound_in m ≡ Some x → x.held ≡ Some r → (q : Reference) × (held_by m ≡ Some q) × (q.resource ≡ r.resource)
@@ -303,12 +289,12 @@ module _ (laws : MediaLaws) (s : ScriptData) (media : List (List Chunk)) (made :
   same_before : (u : Course) (c : ℕ) → SameMedia s media (record_of v) (record_of u) → SameBefore s media v (record_of u) c
   same_before u c told = variables_stay s media (record_of v) (record_of u) c (length (at c v.callers)) told (omega arith) ∙ sym (st.stand.variables c)
 
-  -- an entry has what its step gives still; its caller made that step
-  arguments_stay : (u : Course) → SameMedia s media (record_of v) (record_of u) → (k p : ℕ) (e : Entry) (who : Who) → entry_in (record_of v) k p ≡ Some e → who_of e ≡ Some who → HasStep s media (record_of u) who e
-  arguments_stay u told k p e who is names =
-      let had = st.arguments k p e who is names in
+  -- a call has what its step gives still; its caller made that step
+  arguments_stay : (u : Course) → SameMedia s media (record_of v) (record_of u) → (k p : ℕ) (who : Who) (x : Call) → entry_in (record_of v) k p ≡ Some (Entry.Call who x) → HasStep s media (record_of u) who x
+  arguments_stay u told k p who x is =
+      let had = st.arguments k p who x is in
       let marks = marks_of (record_of v) in
-      let lt = slice_get_within (at who.caller marks) who.step (mark.Call k p) (names_call k (at k (histories v.codecs)) marks p e who (st.once k) is names) in
+      let lt = slice_get_within (at who.caller marks) who.step (mark.Call k p) (names_call k (at k (histories v.codecs)) marks p (Entry.Call who x) who (st.once k) is refl) in
       let long = marks_long who.caller v.callers in
       (had.0, had.1, rw (variables_stay s media (record_of v) (record_of u) who.caller who.step told (omega (arith, lt, long))) had.2)
 
@@ -396,12 +382,12 @@ module _ (laws : MediaLaws) (s : ScriptData) (media : List (List Chunk)) (made :
         → EntryStands (steps_of s) (brought_to s media (record_of u)) (lending_of s (with_entry k e v).codecs) (made_steps (record_of v)) (length s.callers) k (next_place v k) e (state_of (codec_at k v.codecs)) v.media
     entry_stands u may g = laws.codecs _ _ _ _ _ _ _ _ _ _ _ (later_stands u g).stands (entry_more laws.held s v k e t codec (st.codecs.opened k) (st.codecs.boxes.each k).replays steps may)
 
-    -- entries have what their steps give still, where this one has
-    entry_arguments : (u : Course) → u.codecs ≡ (with_entry k e v).codecs → SameMedia s media (record_of v) (record_of u) → ((who : Who) → who_of e ≡ Some who → HasStep s media (record_of u) who e) → ArgumentsAreIn s media (record_of u)
-    entry_arguments u codecs told has n q f who is names =
-        elim (entries_new v k q n e f (ap (λ (ds : List CodecValue). slice_get (at n (histories ds)) q) (sym codecs) ∙ is)) [
-          | inl was ↦ arguments_stay u told n q f who was names
-          | inr new ↦ rw new.value (has who (ap who_of (sym new.value) ∙ names))
+    -- calls have what their steps give still, where this entry has
+    entry_arguments : (u : Course) → u.codecs ≡ (with_entry k e v).codecs → SameMedia s media (record_of v) (record_of u) → ((who : Who) (x : Call) → e ≡ Entry.Call who x → HasStep s media (record_of u) who x) → ArgumentsAreIn s media (record_of u)
+    entry_arguments u codecs told has n q who x is =
+        elim (entries_new v k q n e (Entry.Call who x) (ap (λ (ds : List CodecValue). slice_get (at n (histories ds)) q) (sym codecs) ∙ is)) [
+          | inl was ↦ arguments_stay u told n q who x was
+          | inr new ↦ has who x (sym new.value)
         ]
 
     -- an entry of no caller
@@ -417,7 +403,7 @@ module _ (laws : MediaLaws) (s : ScriptData) (media : List (List Chunk)) (made :
           callers = st.callers;
           codecs = codecs_more fits;
           results = λ b j q is. result_stays s (record_of v) (record_of u) grows media legals st.climbs told b j q is (st.results b j q is);
-          arguments = entry_arguments u refl told (λ who names. absurd (let bad = sym nobody ∙ names in cc));
+          arguments = entry_arguments u refl told (λ who x is. absurd (let bad = sym nobody ∙ ap who_of is in cc));
           once = λ n. elim (cases_eq n k) [
             | inr other ↦ rw (same_history v k n e other) (st.once n)
             | inl same ↦ rw (same, this_history v k e codec) (λ t. ap (sum_by t) still ∙ st.once k t)
@@ -426,37 +412,52 @@ module _ (laws : MediaLaws) (s : ScriptData) (media : List (List Chunk)) (made :
           stand = stands.stands;
         }
 
-    -- an entry of a caller and its result, with these media
-    entered_stands : (c : ℕ) (r : StepResult) (m : Media) (x : Step) → let u = told_by c r m (with_entry k e v) in c < length v.callers → who_of e ≡ Some (next_who v c) → mark_of r ≡ mark.Call k (next_place v k) → step_in s c (length (at c v.callers)) ≡ Some x
-        → HasArguments s media (variables_of c v.media.variables) (next_who v c) e x → SameMedia s media (record_of v) (record_of u) → ResultFits s media (record_of u) c (length (at c v.callers)) r → MediaAt s media u → Stands s media made u
-    entered_stands c r m x caller names marks is_step has told fits stand =
-        let u = told_by c r m (with_entry k e v) in
-        told_stands c caller u r refl (both_grow v c k e r m) (call_marked v c k e r codec names marks) (codecs_more (call_fits e (next_who v c) (codec_at k v.codecs).holding.refusal names)) told
-        (entry_arguments u refl told (λ who is. rw (some_same who (next_who v c) (sym is ∙ names)) (x, is_step, rw (same_before u c told) has))) fits stand
+  -- ---- a call of a caller that is there, with the codec's state after it
 
-    -- a call of a caller: the script's step, its entry, and the exception that it shows
-    ask_stands : (c : ℕ) (error : Option DomError) (x : Step) → c < length v.callers → step_in s c (length (at c v.callers)) ≡ Some x → called x ≡ Some k → who_of e ≡ Some (next_who v c) → HasArguments s media (variables_of c v.media.variables) (next_who v c) e x → MayAddAll v.media.pool e
-        → error ≡ refusal_in (shows e (state_of (codec_at k v.codecs))) → Stands s media made (after_move (Ask c k e error) v)
-    ask_stands c error x caller is_step calls names has adds shows_error =
-        let u = after_move (Ask c k e error) v in
-        let r = call_result v k error in
+  module _ (c k : ℕ) (x : Call) (t : State) (caller : c < length v.callers) (codec : k < length v.codecs) (steps : entry_step (Entry.Call (next_who v c) x) (state_of (codec_at k v.codecs)) ≡ Some t) where
+    abbrev e : Entry
+    e = Entry.Call (next_who v c) x
+
+    -- its entry and its result, with these media
+    entered_stands : (r : StepResult) (m : Media) (y : Step) → let u = told_by c r m (with_entry k e v) in mark_of r ≡ mark.Call k (next_place v k) → step_in s c (length (at c v.callers)) ≡ Some y
+        → HasArguments s media (variables_of c v.media.variables) c x y → SameMedia s media (record_of v) (record_of u) → ResultFits s media (record_of u) c (length (at c v.callers)) r → MediaAt s media u → Stands s media made u
+    entered_stands r m y marks is_step has told fits stand =
+        let u = told_by c r m (with_entry k e v) in
+        told_stands c caller u r refl (both_grow v c k e r m) (call_marked v c k e r codec refl marks) (codecs_more k e t codec steps (call_fits e (next_who v c) (codec_at k v.codecs).holding.refusal refl)) told
+        (entry_arguments k e t codec steps u refl told (λ who z is. (
+        let same : who ≡ next_who v c = cc in
+        let its : z ≡ x = cc in
+        rw (same, its) (y, is_step, rw (same_before u c told) has)
+        ))) fits stand
+
+    -- the exception that it shows
+    shown_there : (u : Course) (error : Option DomError) → u.codecs ≡ (with_entry k e v).codecs → error ≡ refusal_in (shows e (state_of (codec_at k v.codecs))) → error ≡ exception_at (opening_at s k) (at k (histories u.codecs)) (next_place v k)
+    shown_there u error codecs shows_error = rw (codecs, this_history v k e codec, sym (history_there v k), shown_last (opening_at s k) (at k (histories v.codecs)) e (legals k), history_at k v.codecs, sym (st.codecs.opened k)) shows_error
+
+    -- a step that calls a codec and takes nothing of it
+    ask_stands : (y : Step) → step_in s c (length (at c v.callers)) ≡ Some y → called y ≡ Some k → HasArguments s media (variables_of c v.media.variables) c x y → MayAddAll v.media.pool e → Stands s media made (after_move (Ask (next_who v c) k x) v)
+    ask_stands y is_step calls has adds =
+        let u = after_move (Ask (next_who v c) k x) v in
+        let before = (state_of (codec_at k v.codecs)).control in
+        let error = exception_of x (call_error x before) in
+        let r = result_of k x (codec_at k v.codecs) in
         let p = next_place v k in
         let grows = both_grow v c k e r u.media in
-        let stands = entry_stands u adds grows in
-        let shown : error ≡ exception_at (opening_at s k) (at k (histories u.codecs)) p = rw (this_history v k e codec, sym (history_there v k), shown_last (opening_at s k) (at k (histories v.codecs)) e (legals k), history_at k v.codecs, sym (st.codecs.opened k)) shows_error in
-        let none = no_look s media (record_of u) c k p x error calls in
-        entered_stands c r u.media x caller names refl is_step has (λ d j lt. stands.same d j ∙ (later_stands u grows).same d j lt)
-        (record { step = x; is_step = is_step; made = rw (none.0, calls) (refl, shown); found = tt; shows = none.1; answers = none.2 _ _ })
-        (laws.others _ _ _ _ _ _ _ c stands.stands (one_more v u c r refl caller) (call_quiet s (brought_to s media (record_of u)) c (length (at c v.callers)) k x is_step calls))
+        let stands = entry_stands k e t codec steps u adds grows in
+        let shown = shown_there u error refl (exception_shown x before.place before.pending (call_error x before)) in
+        let none = no_look s media (record_of u) c k p y error calls in
+        entered_stands r u.media y refl is_step has (λ d j lt. stands.same d j ∙ (later_stands u grows).same d j lt)
+        (record { step = y; is_step = is_step; made = rw (none.0, calls) (refl, shown); found = tt; shows = none.1; answers = none.2 _ _ })
+        (laws.others _ _ _ _ _ _ _ c stands.stands (one_more v u c r refl caller) (call_quiet s (brought_to s media (record_of u)) c (length (at c v.callers)) k y is_step calls))
 
   -- a take of the output with this number, which was shown: all but its caller's media are as after a call
   received_stands : (c k n : ℕ) (y : Came) (bind : List ℕ) (holds : VariableKind) (t : State) (o : output.Unit) → let x = MediaStep.Take k bind holds in c < length v.callers → k < length v.codecs → step_in s c (length (at c v.callers)) ≡ Some (Step.Media x)
-      → entry_step (Entry.Take (next_who v c) n) (state_of (codec_at k v.codecs)) ≡ Some t → output_at (opening_at s k) (at k (histories v.codecs)) n ≡ Some o
-      → media_came v.media.pool (next_who v c) (brought None (Some (taken_as (take_result v k n) o))) x (variables_of c v.media.variables) ≡ Some y → Stands s media made (after_move (Receive (next_who v c) k (Entry.Take (next_who v c) n) y) v)
+      → entry_step (Entry.Call (next_who v c) (Call.Take n)) (state_of (codec_at k v.codecs)) ≡ Some t → output_at (opening_at s k) (at k (histories v.codecs)) n ≡ Some o
+      → media_came v.media.pool (next_who v c) (brought None (Some (taken_as (take_result v k n) o))) x (variables_of c v.media.variables) ≡ Some y → Stands s media made (after_move (Receive (next_who v c) k n y) v)
   received_stands c k n y bind holds t o caller codec is_step steps there comes =
-      let e = Entry.Take (next_who v c) n in
+      let e = Entry.Call (next_who v c) (Call.Take n) in
       let x = MediaStep.Take k bind holds in
-      let u = after_move (Receive (next_who v c) k e y) v in
+      let u = after_move (Receive (next_who v c) k n y) v in
       let w = record_of u in
       let r = take_result v k n in
       let vs = variables_of c v.media.variables in
@@ -468,7 +469,7 @@ module _ (laws : MediaLaws) (s : ScriptData) (media : List (List Chunk)) (made :
       let stands = entry_stands k e t codec steps u (λ i p is. absurd cc) grows in
       let told : StepStands (steps_of s) (brought_to s media w) (lending_of s u.codecs) (made_steps (record_of v)) (made_steps w) (length s.callers) (with_entry k e v).media c y =
       laws.media _ _ _ _ _ _ _ c x y stands.stands (rw (sym st.callers) caller) (one_more v u c y.answer refl caller) is_step (rw (took, append-nil v.media.pool) comes) in
-      entered_stands k e t codec steps c y.answer u.media (Step.Media x) caller refl (ap mark_of answers) is_step (n, refl) (λ d j lt. told.earlier d j lt ∙ (stands.same d j ∙ (later_stands u grows).same d j lt))
+      entered_stands c k (Call.Take n) t caller codec steps y.answer u.media (Step.Media x) (ap mark_of answers) is_step (n, refl) (λ d j lt. told.earlier d j lt ∙ (stands.same d j ∙ (later_stands u grows).same d j lt))
       (rw answers (record { step = Step.Media x; is_step = is_step; made = (refl, stood); found = (o, shown); shows = tt; answers = tt })) told.stands
 
   -- ---- the next step of a caller, where the script is sound
@@ -482,12 +483,12 @@ module _ (laws : MediaLaws) (s : ScriptData) (media : List (List Chunk)) (made :
     caller_there x is =
         let there = stands_in s.callers c (length (at c v.callers)) x is in omega (arith, slice_get_within s.callers c there.caller there.is_caller, st.callers)
 
-    -- a caller's step on a codec, and its entry
-    asks : (k : ℕ) (x : Step) (e : Entry) (error : Option DomError) → IsNext s v c x → called x ≡ Some k → Said v.media.pool (state_of (codec_at k v.codecs)) e error
-        → who_of e ≡ Some (next_who v c) → HasArguments s media (variables_of c v.media.variables) (next_who v c) e x → After (Ask c k e error)
-    asks k x e error is calls said names has =
-        let after = legal_after e (state_of (codec_at k v.codecs)) said.0 in
-        ask_stands k e after.0 (omega (arith, sound.names c (length (at c v.callers)) k x is (called_is_named x k calls), st.codecs.count)) after.1 c error x (caller_there x is) is calls names has said.2 said.1
+    -- a caller's step on a codec, and its call
+    asks : (k : ℕ) (y : Step) (x : Call) → IsNext s v c y → called y ≡ Some k → may_call x (state_of (codec_at k v.codecs)).control ≡ true → MayAddAll v.media.pool (Entry.Call (next_who v c) x)
+        → HasArguments s media (variables_of c v.media.variables) c x y → After (Ask (next_who v c) k x)
+    asks k y x is calls may adds has =
+        let after = legal_after (Entry.Call (next_who v c) x) (state_of (codec_at k v.codecs)) (rw may refl) in
+        ask_stands c k x after.0 (caller_there y is) (omega (arith, sound.names c (length (at c v.callers)) k y is (called_is_named y k calls), st.codecs.count)) after.1 y is calls has adds
 
     answered : (x : Step) (r : StepResult) → IsNext s v c x → IsMarked v v c r → IsResultOf s (record_of (with_result c r v)) (next_who v c) x r → IsFound s (record_of (with_result c r v)) r
         → LookShows s (record_of (with_result c r v)) c x r → ((o : Option Came) → IsLocalAnswer s media (variables_of c v.media.variables) o c x r) → IsQuiet (steps_of s) (brought_to s media (record_of (with_result c r v))) c (length (at c v.callers)) → After (Answer c r)
@@ -502,10 +503,10 @@ module _ (laws : MediaLaws) (s : ScriptData) (media : List (List Chunk)) (made :
     still x r is marked made_of found looks answers other =
         answered x r is marked made_of found looks answers (none_quiet s (brought_to s media (record_of (with_result c r v))) c (length (at c v.callers)) (ap (option_and_then media_of) is ∙ other))
 
-    decodes : (k : ℕ) (chunk : Variable) (o : Option Chunk) → IsNext s v c (Step.Decode k chunk) → chunk_for media (steps_of s c) (variables_of c v.media.variables) chunk.step ≡ o → After (decode_move (next_who v c) k o (codec_at k v.codecs))
+    decodes : (k : ℕ) (chunk : Variable) (o : Option Chunk) → IsNext s v c (Step.Decode k chunk) → chunk_for media (steps_of s c) (variables_of c v.media.variables) chunk.step ≡ o → After (call_move (next_who v c) k (option_map Call.Decode o))
     decodes k chunk None is none = still (Step.Decode k chunk) StepResult.Absent is (local_marked v c StepResult.Absent refl) tt tt tt (λ o. none) refl
     decodes k chunk (Some value) is some =
-        asks k (Step.Decode k chunk) (Entry.Decode (next_who v c) value) _ is refl (call_said v.media.pool (next_who v c) (Call.Decode value) (state_of (codec_at k v.codecs))) refl (value, some, refl)
+        asks k (Step.Decode k chunk) (Call.Decode value) is refl refl (λ i p at. absurd cc) (value, some, refl)
 
     -- a step that looks at an earlier promise finds the call of its flush
     promise_call : (x : Step) (promise : Variable) → IsNext s v c x → looked_at x ≡ Some promise → (k : ℕ) × (p : ℕ) × (error : Option DomError) × (result_in (record_of v) c promise.step ≡ Some (StepResult.Call k p error))
@@ -541,19 +542,18 @@ module _ (laws : MediaLaws) (s : ScriptData) (media : List (List Chunk)) (made :
         let n = (state_of d).control.taken in
         let counted : (state_of d).control.shown ≡ length (outputs_of (shown d.opening d.history)) = shown_counted d.opening d.history (state_of d) (st.codecs.boxes.each k).replays in
         let below : n < length (outputs_of (shown d.opening d.history)) = slice_get_within (outputs_of (shown d.opening d.history)) n u some in
-        let after = legal_after (Entry.Take (next_who v c) n) (state_of d) (take_legal (next_who v c) (state_of d) (omega (arith, counted, below))) in
+        let after = legal_after (Entry.Call (next_who v c) (Call.Take n)) (state_of d) (take_legal (next_who v c) (state_of d) (omega (arith, counted, below))) in
         received_stands c k n _ bind holds after.0 u (caller_there x is) (omega (arith, sound.names c (length (at c v.callers)) k x is refl, st.codecs.count)) is after.1
         (rw (history_at k v.codecs, sym (st.codecs.opened k)) some) refl
 
-    encodes : (k : ℕ) (content : Variable) (o : Option Sound) → IsNext s v c (Step.Media (MediaStep.Encode k content)) → sound_at (variables_of c v.media.variables) content.step ≡ o → After (encode_move (next_who v c) k v.media.pool o (codec_at k v.codecs))
+    encodes : (k : ℕ) (content : Variable) (o : Option Sound) → IsNext s v c (Step.Media (MediaStep.Encode k content)) → sound_at (variables_of c v.media.variables) content.step ≡ o → After (call_move (next_who v c) k (option_map (encode_of v.media.pool (codec_at k v.codecs)) o))
     encodes k content None is none =
         answered (Step.Media (MediaStep.Encode k content)) StepResult.Absent is (local_marked v c StepResult.Absent refl) tt tt tt (λ o. none)
         (call_quiet s (brought_to s media (record_of (with_result c StepResult.Absent v))) c (length (at c v.callers)) k (Step.Media (MediaStep.Encode k content)) is refl)
     encodes k content (Some x) is some =
-        let t = state_of (codec_at k v.codecs) in
-        let pool = v.media.pool in
-        let accepts = is_configured t.control in
-        asks k (Step.Media (MediaStep.Encode k content)) (Entry.Encode (next_who v c) (handed_of (references_made pool) accepts x)) _ is refl (encode_said pool (next_who v c) x.shape x.held t accepts refl lives) refl (x, references_made pool, accepts, some, refl)
+        let before = (state_of (codec_at k v.codecs)).control in
+        let may = handed_may v.media.pool (next_who v c) x.shape x.held before (is_configured before) refl lives in
+        asks k (Step.Media (MediaStep.Encode k content)) (encode_of v.media.pool (codec_at k v.codecs) x) is refl may.0 may.1 (x, references_made v.media.pool, is_configured before, some, refl)
       where
         lives : (r : MediaRef) → x.held ≡ Some r → is_held r.resource v.media.pool ≡ true
         lives r holds =
@@ -561,10 +561,10 @@ module _ (laws : MediaLaws) (s : ScriptData) (media : List (List Chunk)) (made :
             subst (λ (i : ℕ). is_held i v.media.pool ≡ true) found.2 (live_held laws.numbered v.media.pool found.0.number found.0.resource st.stand.accounted.legal (st.stand.held.live c content.step found.0 found.1))
 
     steps : (x : Step) → IsNext s v c x → After (step_move s media (next_who v c) x v)
-    steps (Step.Configure on config) is = asks on (Step.Configure on config) (Entry.Configure (next_who v c) config) _ is refl (call_said v.media.pool (next_who v c) (Call.Configure config) (state_of (codec_at on v.codecs))) refl refl
+    steps (Step.Configure on config) is = asks on (Step.Configure on config) (Call.Configure config) is refl refl (λ i p at. absurd cc) refl
     steps (Step.Chunk bind source) is = still (Step.Chunk bind source) (StepResult.Local (source_error source)) is (local_marked v c (StepResult.Local (source_error source)) refl) tt tt tt (λ o. refl) refl
     steps (Step.Decode on chunk) is = decodes on chunk (chunk_for media (steps_of s c) (variables_of c v.media.variables) chunk.step) is refl
-    steps (Step.Flush on bind) is = asks on (Step.Flush on bind) (Entry.Flush (next_who v c)) _ is refl (call_said v.media.pool (next_who v c) Call.Flush (state_of (codec_at on v.codecs))) refl refl
+    steps (Step.Flush on bind) is = asks on (Step.Flush on bind) Call.Flush is refl refl (λ i p at. absurd cc) refl
     steps (Step.Poll promise) is =
         let found = promise_call (Step.Poll promise) promise is refl in
         let r = look_at v found.0 found.1 in
@@ -573,8 +573,8 @@ module _ (laws : MediaLaws) (s : ScriptData) (media : List (List Chunk)) (made :
         let found = promise_call (Step.Await promise) promise is refl in
         let r = look_at v found.0 found.1 in
         rw found.3 (still (Step.Await promise) r is (look_marked v c found.0 r refl) tt tt (look_shows promise r found.0 found.1 found.2 found.3) (λ o. tt) refl)
-    steps (Step.Reset on) is = asks on (Step.Reset on) (Entry.Reset (next_who v c)) _ is refl (removal_said v.media.pool (next_who v c) Removal.Reset (state_of (codec_at on v.codecs))) refl refl
-    steps (Step.Close on) is = asks on (Step.Close on) (Entry.Close (next_who v c)) _ is refl (removal_said v.media.pool (next_who v c) Removal.Close (state_of (codec_at on v.codecs))) refl refl
+    steps (Step.Reset on) is = asks on (Step.Reset on) Call.Reset is refl refl (λ i p at. absurd cc) refl
+    steps (Step.Close on) is = asks on (Step.Close on) Call.Close is refl refl (λ i p at. absurd cc) refl
     steps (Step.State on) is =
         let r = look_of_state on (codec_at on v.codecs) in
         still (Step.State on) r is (look_marked v c on r refl) tt tt

@@ -59,7 +59,7 @@ module _ (laws : MediaLaws) (s : ScriptData) (media : List (List Chunk)) (made :
       boxes = subst (λ (ds : List CodecValue). Accounted ds (record { made = made; history = [] })) (map-map new_codec opening_of s.codecs) (nothing_accounted (map opening_of s.codecs) made);
     };
     results = λ c j r is. absurd (let none : None ≡ Some r = sym (ap (λ (xs : List StepResult). slice_get xs j) (at_empty c s.callers)) ∙ is in cc);
-    arguments = λ k p e who is names. absurd (let none : None ≡ Some e = sym (ap (λ (xs : List Entry). slice_get xs p) (no_history s.codecs k)) ∙ is in cc);
+    arguments = λ k p who x is. absurd (let none : None ≡ Some (Entry.Call who x) = sym (ap (λ (xs : List Entry). slice_get xs p) (no_history s.codecs k)) ∙ is in cc);
     once = λ k. subst (λ (h : List Entry). mark.CallsAreIn k h (marks_of (record_of (nothing_yet s made)))) (sym (no_history s.codecs k)) (λ t. ap (sum_by t) (sym (no_calls k 0 s.callers)));
     climbs = λ c k. subst (λ (l : List StepResult). Climbs k 0 (map mark_of l) (length (at k (histories (nothing_yet s made).codecs)))) (sym (at_empty c s.callers)) (omega arith);
     stand = subst (λ (l : Lending). MediaStand (steps_of s) (brought_to s media (record_of (nothing_yet s made))) l (made_steps (record_of (nothing_yet s made))) (length s.callers) (nothing_yet s made).media) (none_lent s made)

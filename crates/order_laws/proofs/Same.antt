@@ -16,7 +16,7 @@ use Rattle.script_types.specs.declared.{script.CodecItem.CodecItem, script.Order
 use Rattle.script_types.specs.declared.steps.MediaStep.{MediaStep}
 use Rattle.report_text.specs.declared.result.StepResult.{StepResult}
 use Rattle.trace_text.specs.declared.run.{CallerTrace.CallerTrace, CodecTrace.CodecTrace, Run.Run}
-use Rattle.trace_text.specs.Follow.{Recorded, Course, record_of, Move, Advance, Ask, Receive, after_move, with_result, with_entry, with_media, steps_of, order_items, item_move, next_move, step_move, done_entry, end_of, outcome_for, follow_item, Follows, nothing_yet}
+use Rattle.trace_text.specs.Follow.{Recorded, Course, record_of, Move, Advance, Ask, Receive, result_of, take_entry, after_move, with_result, with_entry, with_media, steps_of, order_items, item_move, next_move, step_move, done_entry, end_of, outcome_for, follow_item, Follows, nothing_yet}
 use Rattle.trace_text.specs.Fits.{recorded_of, IsLegalTrace, AreLegalTraces, IsLegalRun, FollowsTheOrder}
 use Rattle.order_laws.specs.Same.{is_want, wants_memory, SameWants, SameBoxes}
 use Rattle.order_laws.proofs.Entries.{longer_history, made_stays, this_history}
@@ -42,15 +42,15 @@ entry_same others k e v same = let d = codec_at k v.codecs in let b = boxes_same
 
 move_same : (others : List CoderId) (m : Move) (v : Course) → SameBoxes v.slots.made others → after_move m (with_made others v) ≡ with_made others (after_move m v)
 move_same others (Advance k e) v same = entry_same others k e v same
-move_same others (Ask c k e error) v same = ap (with_result c (StepResult.Call k (length (codec_at k v.codecs).history) error)) (entry_same others k e v same)
-move_same others (Receive who k e y) v same = ap (λ (w : Course). with_result who.caller y.answer (with_media who y w)) (entry_same others k e v same)
+move_same others (Ask who k x) v same = ap (with_result who.caller (result_of k x (codec_at k v.codecs))) (entry_same others k (Entry.Call who x) v same)
+move_same others (Receive who k n y) v same = ap (λ (w : Course). with_result who.caller y.answer (with_media who y w)) (entry_same others k (take_entry who n) v same)
 move_same others m v same = refl
 
 -- a move leaves the boxes that were made, and histories grow at their end
 move_keeps : (m : Move) (v : Course) (k : ℕ) → ((after_move m v).slots.made ≡ v.slots.made) × ((more : List Entry) × (at k (histories (after_move m v).codecs) ≡ at k (histories v.codecs) ++ more))
 move_keeps (Advance j e) v k = (made_stays v j e, longer_history v j k e)
-move_keeps (Ask c j e error) v k = (made_stays v j e, longer_history v j k e)
-move_keeps (Receive who j e y) v k = (made_stays v j e, longer_history v j k e)
+move_keeps (Ask who j x) v k = (made_stays v j (Entry.Call who x), longer_history v j k (Entry.Call who x))
+move_keeps (Receive who j n y) v k = (made_stays v j (take_entry who n), longer_history v j k (take_entry who n))
 move_keeps m v k = (refl, ([], sym (append-nil (at k (histories v.codecs)))))
 
 in_range : (ds : List CodecValue) (k : ℕ) (r : Running) → (state_of (codec_at k ds)).control.running ≡ Some r → k < length ds
@@ -64,7 +64,7 @@ wanted_by wants refusal answer = refl
 
 module _ (s : ScriptData) (media : List (List Chunk)) (others : List CoderId) where
   step_same : (who : Who) (x : Step) (v : Course) → step_move s media who x (with_made others v) ≡ step_move s media who x v
-  step_same who (Step.Media (MediaStep.Take on bind kind)) v = refl
+  step_same who (Step.Media (MediaStep.CloseData of)) v = refl
   step_same who x v = refl
 
   item_same : (wants : Bool) (x : OrderItem) (v : Course) → item_move s media wants x (with_made others v) ≡ item_move s media wants x v

@@ -8,7 +8,7 @@ use Rattle.wc_config.specs.declared.{config.AudioDecoderConfig.AudioDecoderConfi
 use Rattle.wc_chunk.specs.declared.chunk.Chunk.{Chunk}
 use Rattle.codec_definitions.specs.declared.unit.Unit as media
 use Rattle.codec_definitions.specs.declared.unit.Unit.TheVariants as unit
-use Rattle.codec_model.specs.{declared.entry.Entry.Entry, declared.entry.Event.Event, declared.entry.Shown.Shown, Shown.units_in, Shown.units_shown}
+use Rattle.codec_model.specs.{declared.entry.Call.Call, declared.entry.Entry.Entry, declared.entry.Event.Event, declared.entry.Shown.Shown, Shown.units_in, Shown.units_shown}
 use Rattle.codec_follow.specs.Outputs.{is_codec_string, IsPlainDescription, IsPlainConfig, IsOutputOf, IsConfigOf, ConfiguresAs, empty_output}
 use Rattle.codec_follow.specs.Laws.{OutputsAreOfKind}
 use Rattle.script_types.specs.declared.{script.ScriptData.ScriptData, script.CodecItem.CodecItem, steps.Step.Step}
@@ -95,7 +95,7 @@ same_codec script w on k p r kept is = grind (arith, kept, is)
 
 -- the step of a configure, which names its codec, has a config of that codec's kind
 step_suits : (script : ScriptData) (files : List (List Chunk)) (vs : List (Option Medium)) (w : Recorded) (who : Who) (k p : ℕ) (r : StepResult) (c : CodecItem) (given : Config) (x : Step)
-    → is_sound script ≡ true → step_in script who.caller who.step ≡ Some x → IsResultOf script w who x r → made_at r ≡ Some (k, p) → HasArguments script files vs who (Entry.Configure who given) x
+    → is_sound script ≡ true → step_in script who.caller who.step ≡ Some x → IsResultOf script w who x r → made_at r ≡ Some (k, p) → HasArguments script files vs who.caller (Call.Configure given) x
     → slice_get script.codecs k ≡ Some c → IsConfigOf c.kind given
 step_suits script files vs w who k p r c given (Step.Configure on config) sound is kept named has at =
     let caller = caller_of_step script.callers who.caller who.step (Step.Configure on config) is in
@@ -108,13 +108,13 @@ step_suits script files vs w who k p r c given _ sound is kept named has at = ab
 
 configures : (script : ScriptData) (files : List (List Chunk)) (w : Recorded) (k p : ℕ) (c : CodecItem) (e : Entry)
     → is_sound script ≡ true → CallsAreIn script w → ArgumentsAreIn script files w → entry_in w k p ≡ Some e → slice_get script.codecs k ≡ Some c → ConfiguresAs c.kind e
-configures script files w k p c (Entry.Configure who given) sound calls arguments is at =
-    let kept = (calls_by_places script w calls).only k p (Entry.Configure who given) who is refl in
+configures script files w k p c (Entry.Call who (Call.Configure given)) sound calls arguments is at =
+    let kept = (calls_by_places script w calls).only k p who (Call.Configure given) is in
     let made = calls.made who.caller who.step kept.0 kept.1 in
-    let gave = arguments k p (Entry.Configure who given) who is refl in
+    let gave = arguments k p who (Call.Configure given) is in
     let same : gave.0 ≡ made.0 = some_same gave.0 made.0 (sym gave.1 ∙ made.1) in
     let vs = variables_at script files w who.caller who.step in
-    step_suits script files vs w who k p kept.0 c given made.0 sound made.1 made.2 kept.2 (subst (λ (x : Step). HasArguments script files vs who (Entry.Configure who given) x) same gave.2) at
+    step_suits script files vs w who k p kept.0 c given made.0 sound made.1 made.2 kept.2 (subst (λ (x : Step). HasArguments script files vs who.caller (Call.Configure given) x) same gave.2) at
 configures script files w k p c _ sound calls arguments is at = tt
 
 trace_plain : OutputsAreOfKind → (c : CodecItem) (t : CodecTrace) → IsLegalTrace c t → ((p : ℕ) (e : Entry) → slice_get t.entries p ≡ Some e → ConfiguresAs c.kind e) → IsPlainTrace t

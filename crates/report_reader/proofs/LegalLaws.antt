@@ -9,13 +9,13 @@ use Rattle.wc_pool.specs.declared.entry.{PoolEntry.PoolEntry, PoolOp.PoolOp}
 use Rattle.codec_definitions.specs.declared.unit.Unit as media
 use Rattle.codec_model.specs.{declared.entry.Pair.Pair, declared.entry.Entry.Entry, declared.entry.Shown.Shown, Held.lets_go}
 use Rattle.codec_model.specs.Replay.{State, opening_state, step as legal_step}
-use Rattle.codec_model.specs.Shown.{shows, units_in, outputs_of, shown, shown_at, shown_from, each_shown_from, units_shown}
+use Rattle.codec_model.specs.Shown.{shows, units_in, outputs_of, shown, shown_from, each_shown_from, units_shown}
 use Rattle.codec_follow.specs.Follow.{each_filled}
 use Rattle.codec_follow.specs.Laws.{LegalFollows, LegalFills, OutputsAreOfKind}
 use Rattle.history_laws.specs.CountLaws.{outputs_tagged}
 use Rattle.codec_accounts.specs.{Owed.at, Codec.state_after}
-use Rattle.script_types.specs.declared.{script.ScriptData.ScriptData, script.CodecItem.CodecItem, steps.VariableKind.VariableKind}
-use Rattle.script_types.specs.{declared.steps.MediaStep.MediaStep, declared.steps.Step.Step, Sound.is_sound}
+use Rattle.script_types.specs.declared.{script.ScriptData.ScriptData, script.CodecItem.CodecItem}
+use Rattle.script_types.specs.Sound.{is_sound}
 use Rattle.report_text.specs.declared.result.StepResult.{StepResult}
 use Rattle.media_variables.specs.Variables.{Taken, medium_at, chunk_in_medium}
 use Rattle.media_accounts.specs.Accounts.{without_last, ops_of_entry, called_for, called_at}
@@ -28,7 +28,7 @@ use Rattle.report_reader.specs.declared.known.Known.{Known}
 use Rattle.report_reader.specs.Arguments.{results_of, output_of, taken_in, cloned, pair_for}
 use Rattle.report_reader.specs.Told.{known_of, HoldAll, IsToldTrace, AreToldTraces, IsTold}
 use Rattle.report_reader.proofs.{RunLaws.shown_units_of, KindLaws.legal_plain, StandingLaws.IsStanding, StandingLaws.stands}
-use Rattle.report_reader.proofs.CallLaws.{AreFound, HasPair, shows_own, IsGiven, entry_holds}
+use Rattle.report_reader.proofs.CallLaws.{AreFound, HasPair, GetsArguments, IsMade, IsGiven, entry_holds}
 
 -- ---- outputs
 
@@ -63,9 +63,8 @@ taken_output : (script : ScriptData) (run : Run) → AreLegalTraces script.codec
 taken_output script run legal o t e = grind (arith, outputs_are, unit_of_taken, legal, e)
 
 -- what a report shows of taken outputs is what the run brings to its callers' steps
-taken_is : (script : ScriptData) (files : List (List Chunk)) (run : Run) → AreLegalTraces script.codecs run.codecs → (c j on : ℕ) (bind : List ℕ) (kind : VariableKind) (t : Taken)
-    → slice_get (steps_of script c) j ≡ Some (Step.Media (MediaStep.Take on bind kind)) → (brought_to script files (recorded_of run) c j (MediaStep.Take on bind kind)).taken ≡ Some t → taken_in (known_of run) c j ≡ Some t.unit
-taken_is script files run legal c j on bind kind t is brought = grind (arith, results_at run.callers c, taken_output script run legal (result_in (recorded_of run) c j) t, brought)
+taken_is : (script : ScriptData) (run : Run) → AreLegalTraces script.codecs run.codecs → (c j : ℕ) (t : Taken) → taken_by script (recorded_of run) (result_in (recorded_of run) c j) ≡ Some t → taken_in (known_of run) c j ≡ Some t.unit
+taken_is script run legal c j t brought = grind (arith, results_at run.callers c, taken_output script run legal (result_in (recorded_of run) c j) t, brought)
 
 -- ---- what arguments are found in
 
@@ -81,8 +80,8 @@ all_found kept taken script files run legal locals =
       chunks = λ c n j value e.
           let vs = variables_at script files w c n in
           either_found (chunk_at files (steps_of script c) j) (option_and_then chunk_in_medium (medium_at vs j)) (option_and_then chunk_of_unit (taken_in known c j)) value
-          (λ chunk is. taken (steps_of script) brought w.pool c (taken_in known c) n j chunk (taken_is script files run legal c) is) e;
-      sounds = λ c n j x r is held. kept (steps_of script) brought w.pool c (taken_in known c) n j x r (taken_is script files run legal c) is held;
+          (λ chunk is. taken (steps_of script) brought w.pool c (taken_in known c) n j chunk (λ i on bind kind t made is. taken_is script run legal c i t is) is) e;
+      sounds = λ c n j x r is held. kept (steps_of script) brought w.pool c (taken_in known c) n j x r (λ i on bind kind t made is. taken_is script run legal c i t is) is held;
       standing = λ c n j r x there sound. subst (λ (rs : List StepResult). IsStanding (steps_of script c) rs n j x) (results_at run.callers c) (stands script files w locals c n j r x there sound);
     }
 
@@ -117,7 +116,7 @@ entries_hold : (script : ScriptData) (files : List (List Chunk)) (w : Recorded) 
     → ((p n : ℕ) (e : Entry) → n ≡ place + p → slice_get es p ≡ Some e → IsGiven script files w known k n e) → HoldAll script files known k place (zip es (each_shown_from es s))
 entries_hold script files w known k place [] s found h = tt
 entries_hold script files w known k place (e ∷ es) s found h = (
-  entry_holds script files w known k place e (shown_at e s) found (shows_own e s) (h 0 place e (omega arith) refl),
+  entry_holds script files w known k place e s found (h 0 place e (omega arith) refl),
   elim (legal_step e s) as (λ o. HoldAll script files known k (place + 1) (zip es (unwrap_or (option_map (each_shown_from es) o) []))) [
     | None ↦ none_hold script files known k (place + 1) es
     | Some t ↦ entries_hold script files w known k (place + 1) es t found (λ p n d same is. h (suc p) n d (omega (arith, same)) is)
@@ -154,12 +153,17 @@ traces_told laws script files w known k (c ∷ cs) (t ∷ ts) found legal h = (
 )
 traces_told laws script files w known k _ _ found legal h = absurd legal
 
+-- the entry of a call has its step's arguments, and that step was made
+arguments_at : (script : ScriptData) (files : List (List Chunk)) (made : List CoderId) (run : Run) → Fits script files made run → (k p : ℕ) (e : Entry) → entry_in (recorded_of run) k p ≡ Some e → GetsArguments script files (recorded_of run) e × IsMade (recorded_of run) e
+arguments_at script files made run fits k p (Entry.Call who x) is =
+    let by_place = (calls_by_places script (recorded_of run) fits.calls).only k p who x is in
+    (fits.arguments k p who x is, (by_place.0, by_place.1))
+arguments_at script files made run fits k p e is = (tt, tt)
+
 given_at : (script : ScriptData) (files : List (List Chunk)) (made : List CoderId) (run : Run) → Fits script files made run → (k p : ℕ) (e : Entry) → entry_in (recorded_of run) k p ≡ Some e → IsGiven script files (recorded_of run) (known_of run) k p e
-given_at script files made run fits k p e is = record {
-  arguments = λ who names. fits.arguments k p e who is names;
-  pair = pair_found script files made run fits k p e is;
-  made = λ who names. (let by_place = (calls_by_places script (recorded_of run) fits.calls).only k p e who is names in (by_place.0, by_place.1));
-}
+given_at script files made run fits k p e is =
+    let calls = arguments_at script files made run fits k p e is in
+    record { arguments = calls.0; pair = pair_found script files made run fits k p e is; made = calls.1 }
 
 pub legal_told : HistoryLaws → (script : ScriptData) (files : List (List Chunk)) (made : List CoderId) (run : Run) → is_sound script ≡ true → AreWithin script files made → IsLegalRun script run → Fits script files made run → IsTold script files run
 legal_told laws script files made run sound within legal fits =

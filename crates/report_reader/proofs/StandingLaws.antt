@@ -9,10 +9,10 @@ use Rattle.codec_definitions.specs.declared.unit.Unit as output
 use Rattle.wc_pool.specs.declared.entry.PoolEntry.{PoolEntry}
 use Rattle.wc_audio.specs.Sound.{Sound}
 use Rattle.codec_accounts.specs.Owed.{at}
-use Rattle.script_types.specs.declared.{script.ScriptData.ScriptData, steps.MediaStep.MediaStep, steps.Step.Step}
+use Rattle.script_types.specs.{declared.script.ScriptData.ScriptData, declared.steps.MediaStep.MediaStep, declared.steps.Step.Step, Names.taken_from}
 use Rattle.report_text.specs.declared.result.StepResult.{StepResult}
 use Rattle.media_variables.specs.CameLaws.{EachCame, by_came}
-use Rattle.media_variables.specs.Variables.{Reference, Shape, SoundOf, Medium, Came, Brought, medium_at, with_medium, detached, unit_came, sound_in, sound_at, media_came}
+use Rattle.media_variables.specs.Variables.{Reference, Shape, SoundOf, Medium, Came, Brought, medium_at, with_medium, detached, refused, unit_came, sound_in, sound_at, media_came}
 use Rattle.media_accounts.specs.Accounts.{step_by, before_step, media_of, variables_by}
 use Rattle.trace_text.specs.Follow.{Recorded, steps_of}
 use Rattle.trace_text.specs.Fits.{LocalsAreIn, result_in, brought_to, variables_at}
@@ -71,19 +71,18 @@ unit_all p given f n vs answer u gave all = grind (arith, new_all, gave, all)
 -- ---- every step
 
 -- What is known of the result of a step on media: what it gives its variable where an output was taken, and else its answer.
-abbrev IsAnswered : Brought → MediaStep → Came → StepResult → Type 0
-IsAnswered b (MediaStep.Take on bind kind) y r = IfSome b.taken (λ t. gives r ≡ true)
-IsAnswered b x y r = r ≡ y.answer
+abbrev IsAnswered : Brought → MediaStep → StepResult → StepResult → Type 0
+IsAnswered b x answer r = elim (taken_from (Step.Media x)) [ None ↦ r ≡ answer | Some on ↦ IfSome b.taken (λ t. gives r ≡ true) ]
 
 -- a step that is refused detaches nothing
-stays : (b : Brought) (x : MediaStep) (y : Came) (r : StepResult) → is_ok y.answer ≡ false → IsAnswered b x y r → detached_in (Step.Media x) r ≡ None
-stays b x y r refused k = grind (arith, refused, k)
+stays : (b : Brought) (x : MediaStep) (answer r : StepResult) → is_ok answer ≡ false → IsAnswered b x answer r → detached_in (Step.Media x) r ≡ None
+stays b x answer r fails k = grind (arith, fails, k)
 
 each_all : (p : List PoolEntry) (who : Who) (b : Brought) (given f : ℕ → Bool) (vs : List (Option Medium)) (r : StepResult) → given who.step ≡ gives r → AreAll given f who.step vs
-    → EachCame p who b vs (λ x y. IsAnswered b x y r → AreAll given (more f (detached_in (Step.Media x) r)) (suc who.step) y.variables)
+    → EachCame p who b vs (λ x y. IsAnswered b x y.answer r → AreAll given (more f (detached_in (Step.Media x) r)) (suc who.step) y.variables)
 each_all p who b given f vs r gave all = record {
-  refuses = λ x e k. same_all given f _ who.step vs (stays b x _ r refl k) all;
-  absent = λ x k. same_all given f _ who.step vs (stays b x _ r refl k) all;
+  refuses = λ x e k. same_all given f _ who.step vs (stays b x (refused e) r refl k) all;
+  absent = λ x k. same_all given f _ who.step vs (stays b x StepResult.Absent r refl k) all;
   audio = λ bind i k. new_all given f who.step vs _ (grind (arith, gave, k)) all;
   frame = λ bind i k. new_all given f who.step vs _ tt all;
   takes = λ on bind kind t is k. unit_all p given f who.step vs t.answer t.unit (gave ∙ rw is at k) all;
@@ -97,13 +96,13 @@ each_all p who b given f vs r gave all = record {
 }
 
 -- a step that comes to nothing here, as an encode or a take that found no output, detaches nothing
-came_all : (p : List PoolEntry) (who : Who) (b : Brought) (x : MediaStep) (given f : ℕ → Bool) (vs : List (Option Medium)) (r : StepResult) → given who.step ≡ gives r → ((y : Came) → media_came p who b x vs ≡ Some y → IsAnswered b x y r) → AreAll given f who.step vs
+came_all : (p : List PoolEntry) (who : Who) (b : Brought) (x : MediaStep) (given f : ℕ → Bool) (vs : List (Option Medium)) (r : StepResult) → given who.step ≡ gives r → ((y : Came) → media_came p who b x vs ≡ Some y → IsAnswered b x y.answer r) → AreAll given f who.step vs
     → (o : Option Came) → media_came p who b x vs ≡ o → AreAll given (more f (detached_in (Step.Media x) r)) (suc who.step) (variables_by o vs)
 came_all p who b x given f vs r gave a all o is = grind (arith, same_all given f None who.step vs refl all, by_came p who b vs _ (each_all p who b given f vs r gave all) x, is, a)
 
 -- what is known of a step that has this result
 abbrev HasResult : List PoolEntry → Who → (MediaStep → Brought) → Option Step → List (Option Medium) → StepResult → Type 0
-HasResult p who brings o vs r = (x : MediaStep) → o ≡ Some (Step.Media x) → (y : Came) → media_came p who (brings x) x vs ≡ Some y → IsAnswered (brings x) x y r
+HasResult p who brings o vs r = (x : MediaStep) → o ≡ Some (Step.Media x) → (y : Came) → media_came p who (brings x) x vs ≡ Some y → IsAnswered (brings x) x y.answer r
 
 step_all : (p : List PoolEntry) (who : Who) (brings : MediaStep → Brought) (o : Option Step) (given f : ℕ → Bool) (vs : List (Option Medium)) (r : StepResult) → given who.step ≡ gives r → HasResult p who brings o vs r → AreAll given f who.step vs
     → AreAll given (more f (option_and_then (λ x. detached_in x r) o)) (suc who.step) (variables_by (option_and_then (λ y. media_came p who (brings y) y vs) (option_and_then media_of o)) vs)

@@ -13,6 +13,8 @@ use Rattle.codec_definitions.specs.declared.unit.Unit as media
 use Rattle.codec_model.specs.declared.entry.Pair.{Pair}
 use Rattle.codec_model.specs.declared.entry.Handed.{Handed}
 use Rattle.codec_model.specs.declared.entry.Handed.TheVariants as handed
+use Rattle.codec_model.specs.declared.entry.Call.{Call}
+use Rattle.codec_model.specs.declared.entry.Call.TheVariants as call
 use Rattle.codec_model.specs.declared.entry.Entry.{Entry}
 use Rattle.codec_model.specs.declared.entry.Entry.TheVariants as entry
 use Rattle.codec_accounts.specs.Owed.{at}
@@ -23,7 +25,7 @@ use Rattle.script_types.specs.declared.steps.MediaStep.TheVariants as on_media
 use Rattle.report_text.specs.declared.result.StepResult.{StepResult}
 use Rattle.report_text.specs.declared.result.StepResult.TheVariants as result
 use Rattle.report_text.specs.declared.line.CallWord.{CallWord}
-use Rattle.report_text.specs.declared.line.CallWord.TheVariants as call
+use Rattle.report_text.specs.declared.line.CallWord.TheVariants as word
 use Rattle.report_text.specs.declared.line.EntryLine.{EntryLine}
 use Rattle.report_text.specs.declared.line.EntryLine.TheVariants as entry_line
 use Rattle.media_accounts.specs.Accounts.{is_by_entry}
@@ -118,41 +120,42 @@ handed_for true false None clone = clone
 handed_for true false (Some dom.InvalidState) clone = Some handed.Kept
 handed_for true false (Some error) clone = None
 
--- the entry of an encode with this exception, at this place of the codec with this number, if the step makes one
-abbrev pub encode_of : Known → List Step → ℕ → ℕ → Who → Option DomError → Step → Option Entry
-encode_of known steps k place who error (step.Media (on_media.Encode on content)) =
+-- what became of the data of the variable that the step with this number defines, for an encode with this exception at this place
+-- of the codec with this number
+abbrev pub handed_in : Known → List Step → ℕ → ℕ → Who → Option DomError → ℕ → Option Handed
+handed_in known steps k place who error j =
     let results = results_of known.callers who.caller in
-    let clone = clone_of (samples_before steps (taken_in known who.caller) who.step content.step) (pair_for k place known.pool) in
-    option_map (λ h. entry.Encode who h) (handed_for (is_given results content.step) (is_detached steps results who.step content.step) error clone)
-encode_of known steps k place who error _ = None
+    let clone = clone_of (samples_before steps (taken_in known who.caller) who.step j) (pair_for k place known.pool) in
+    handed_for (is_given results j) (is_detached steps results who.step j) error clone
 
--- the entry of another call with the arguments of a step of its caller's steps, if the step makes such a call. `media` has the
--- chunks of each of the script's chunk files
-abbrev pub call_of : List (List Chunk) → Known → List Step → Who → CallWord → Step → Option Entry
-call_of media known steps who call.Configure (step.Configure on config) = Some (entry.Configure who config)
-call_of media known steps who call.Decode (step.Decode on chunk) =
-    option_map (λ c. entry.Decode who c) (chunk_found media steps (taken_in known who.caller) chunk.step)
-call_of media known steps who call.Flush (step.Flush on bind) = Some (entry.Flush who)
-call_of media known steps who call.Reset (step.Reset on) = Some (entry.Reset who)
-call_of media known steps who call.Close (step.Close on) = Some (entry.Close who)
-call_of media known steps who _ _ = None
+-- the call of this word and exception with the arguments of a step of its caller's steps, if the step makes such a call. `media` has
+-- the chunks of each of the script's chunk files
+abbrev pub call_of : List (List Chunk) → Known → List Step → ℕ → ℕ → Who → CallWord → Option DomError → Step → Option Call
+call_of media known steps k place who word.Configure error (step.Configure on config) = Some (call.Configure config)
+call_of media known steps k place who word.Decode error (step.Decode on chunk) =
+    option_map (λ c. call.Decode c) (chunk_found media steps (taken_in known who.caller) chunk.step)
+call_of media known steps k place who word.Encode error (step.Media (on_media.Encode on content)) =
+    option_map (λ h. call.Encode h) (handed_in known steps k place who error content.step)
+call_of media known steps k place who word.Flush error (step.Flush on bind) = Some call.Flush
+call_of media known steps k place who word.Reset error (step.Reset on) = Some call.Reset
+call_of media known steps k place who word.Close error (step.Close on) = Some call.Close
+call_of media known steps k place who _ error _ = None
 
--- the entry of a take of the output with this number, if the step takes one
-abbrev pub take_of : Who → ℕ → Step → Option Entry
-take_of who n (step.Media (on_media.Take on bind kind)) = Some (entry.Take who n)
-take_of who n _ = None
+-- the take of the output with this number, if the step takes one
+abbrev pub take_of : ℕ → Step → Option Call
+take_of n (step.Media (on_media.Take on bind kind)) = Some (call.Take n)
+take_of n _ = None
 
--- what a step of a caller gives
-abbrev pub by_step : ScriptData → Who → (Step → Option Entry) → Option Entry
-by_step script who given = option_and_then given (slice_get (steps_of script who.caller) who.step)
+-- the entry of the call that a caller's step makes
+abbrev pub made_by : ScriptData → Who → (Step → Option Call) → Option Entry
+made_by script who made = option_map (λ x. entry.Call who x) (option_and_then made (slice_get (steps_of script who.caller) who.step))
 
 -- the entry that is told at this place of the codec with this number, with the arguments of its step
 abbrev pub entry_of : ScriptData → List (List Chunk) → Known → ℕ → ℕ → EntryLine → Option Entry
-entry_of script media known k place (entry_line.Call who call.Encode error) =
-    by_step script who (encode_of known (steps_of script who.caller) k place who error)
-entry_of script media known k place (entry_line.Call who word error) = by_step script who (call_of media known (steps_of script who.caller) who word)
-entry_of script media known k place (entry_line.Take who n) = by_step script who (take_of who n)
+entry_of script media known k place (entry_line.Call who called error) =
+    made_by script who (call_of media known (steps_of script who.caller) k place who called error)
+entry_of script media known k place (entry_line.Take who n) = made_by script who (take_of n)
 entry_of script media known k place (entry_line.Start epoch item) = Some (entry.Start epoch item)
 entry_of script media known k place (entry_line.Done epoch item moment outcome) = Some (entry.Done epoch item moment outcome)
-entry_of script media known k place (entry_line.Turn word) = Some entry.Turn
+entry_of script media known k place (entry_line.Turn task) = Some entry.Turn
 entry_of script media known k place (entry_line.Reclaim moment) = Some (entry.Reclaim moment)

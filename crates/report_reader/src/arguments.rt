@@ -1,6 +1,6 @@
 // Entries get the arguments of their steps.
-ghost use Rattle.std.specs.Prelude.{◌≡◌, IfOk, Some, None, option_and_then, option_map};
-ghost use Rattle.media_accounts.specs.Samples.{chunk_of_unit, samples_before};
+ghost use Rattle.std.specs.Prelude.{◌≡◌, IfOk, Some, None, option_and_then, option_map, slice_get};
+ghost use Rattle.media_accounts.specs.Samples.{chunk_of_unit};
 ghost use Rattle.trace_text.specs.Follow.{steps_of};
 ghost use Rattle.report_reader.specs.Arguments as spec;
 ghost use Rattle.report_reader.specs.Tables.{AreTables};
@@ -8,7 +8,7 @@ ghost use Rattle.report_reader.specs.Tables.{AreTables};
 use crate::clones::find_samples;
 use crate::known::{Known, is_given, taken_in};
 use crate::tables::{Tables, is_ended, pair_at};
-use codec_model::{Entry, Handed, HeldSound, Pair};
+use codec_model::{Call, Entry, Handed, HeldSound, Pair};
 use coder_api::Unit;
 use report_text::{CallWord, EntryLine};
 use script_types::{MediaStep, ScriptData, Step};
@@ -17,11 +17,11 @@ use wc_base::{DomError, List, NoMemory, Samples, Who};
 use wc_chunk::Chunk;
 
 // A decode of this chunk, if there is one.
-fn decode_of(who: Who, chunk: Option<Chunk>) -> Option<Entry>
-    ensures { result ≡ option_map (λ c. Entry.Decode who c) chunk }
+fn decode_of(chunk: Option<Chunk>) -> Option<Call>
+    ensures { result ≡ option_map (λ c. Call.Decode c) chunk }
 {
     match chunk {
-        Some(chunk) => Some(Entry::Decode { who, chunk }),
+        Some(chunk) => Some(Call::Decode(chunk)),
         None => None,
     }
 }
@@ -64,52 +64,6 @@ fn chunk_found(
     }
 }
 
-// The entry of a call other than an encode, with the arguments of this step of the caller's steps.
-fn call_of(
-    media: &[List<Chunk>],
-    known: &Known,
-    steps: &[Step],
-    who: Who,
-    call: CallWord,
-    step: &Step,
-) -> Result<Option<Entry>, NoMemory>
-    ensures { IfOk result
-        (λ o. o ≡ spec.call_of media.now known.now steps.now who call step.now) }
-{
-    match (call, step) {
-        (CallWord::Configure, Step::Configure { on: _, config }) => Ok(Some(Entry::Configure {
-            who,
-            config: config.copy()?,
-        })),
-        (CallWord::Decode, Step::Decode { on: _, chunk }) => {
-            let chunk = chunk_found(media, known, steps, who.caller, chunk.step)?;
-            Ok(decode_of(who, chunk))
-        }
-        (CallWord::Flush, Step::Flush { on: _, bind: _ }) => Ok(Some(Entry::Flush { who })),
-        (CallWord::Reset, Step::Reset { on: _ }) => Ok(Some(Entry::Reset { who })),
-        (CallWord::Close, Step::Close { on: _ }) => Ok(Some(Entry::Close { who })),
-        _ => Ok(None),
-    }
-}
-
-// The entry of a call other than an encode, with the arguments of its step.
-fn call_entry(
-    script: &ScriptData,
-    media: &[List<Chunk>],
-    known: &Known,
-    who: Who,
-    call: CallWord,
-) -> Result<Option<Entry>, NoMemory>
-    ensures { IfOk result (λ o. o ≡ spec.by_step script.now who
-        (spec.call_of media.now known.now (steps_of script.now who.caller) who call)) }
-{
-    let steps = steps_of(script, who.caller);
-    match steps.get(who.step as usize) {
-        Some(step) => call_of(media, known, steps, who, call, step),
-        None => Ok(None),
-    }
-}
-
 // A clone of these samples, if both are there.
 fn clone_of(samples: Option<Samples>, pair: Option<Pair>) -> Option<Handed>
     ensures { result ≡ spec.clone_of samples pair }
@@ -122,7 +76,7 @@ fn clone_of(samples: Option<Samples>, pair: Option<Pair>) -> Option<Handed>
 
 // What became of the data of the variable that the step with this number defines, by the results of its caller and the
 // exception of its encode.
-fn handed_of(
+fn handed_in(
     script: &ScriptData,
     known: &Known,
     tables: &Tables,
@@ -133,13 +87,8 @@ fn handed_of(
     content: u32,
 ) -> Result<Option<Handed>, NoMemory>
     requires { AreTables script.now known.now tables.now }
-    ensures { let steps = steps_of script.now who.caller in
-        let results = spec.results_of known.now.callers who.caller in
-        let samples = samples_before steps (spec.taken_in known.now who.caller) in
-        let pair = spec.pair_for codec place known.now.pool in
-        IfOk result (λ o. o ≡ spec.handed_for (spec.is_given results content)
-        (spec.is_detached steps results who.step content) error
-        (spec.clone_of (samples who.step content) pair)) }
+    ensures { IfOk result (λ o. o ≡ spec.handed_in known.now
+        (steps_of script.now who.caller) codec place who error content) }
 {
     if !is_given(known, who.caller, content) {
         return Ok(None);
@@ -159,76 +108,106 @@ fn handed_of(
 }
 
 // An encode with which this became of its data, if that is known.
-fn encode_with(who: Who, handed: Option<Handed>) -> Option<Entry>
-    ensures { result ≡ option_map (λ h. Entry.Encode who h) handed }
+fn encode_of(handed: Option<Handed>) -> Option<Call>
+    ensures { result ≡ option_map (λ h. Call.Encode h) handed }
 {
     match handed {
-        Some(handed) => Some(Entry::Encode { who, handed }),
+        Some(handed) => Some(Call::Encode(handed)),
         None => None,
     }
 }
 
-// The entry of an encode with this exception, if the step makes one.
-fn encode_of(
+// The call of this word and exception, with the arguments of this step, if the step makes such a call.
+fn call_of(
     script: &ScriptData,
+    media: &[List<Chunk>],
     known: &Known,
     tables: &Tables,
     codec: usize,
     place: u64,
     who: Who,
+    word: CallWord,
     error: Option<DomError>,
     step: &Step,
-) -> Result<Option<Entry>, NoMemory>
+) -> Result<Option<Call>, NoMemory>
     requires { AreTables script.now known.now tables.now }
-    ensures { IfOk result (λ o. o ≡ spec.encode_of known.now
-        (steps_of script.now who.caller) codec place who error step.now) }
+    ensures { IfOk result (λ o. o ≡ spec.call_of media.now known.now
+        (steps_of script.now who.caller) codec place who word error step.now) }
 {
-    match step {
-        Step::Media(MediaStep::Encode { on: _, content }) => {
-            let content = content.step;
-            let handed = handed_of(script, known, tables, codec, place, who, error, content)?;
-            Ok(encode_with(who, handed))
+    match (word, step) {
+        (CallWord::Configure, Step::Configure { on: _, config }) => {
+            Ok(Some(Call::Configure(config.copy()?)))
         }
+        (CallWord::Decode, Step::Decode { on: _, chunk }) => {
+            let steps = steps_of(script, who.caller);
+            let chunk = chunk_found(media, known, steps, who.caller, chunk.step)?;
+            Ok(decode_of(chunk))
+        }
+        (CallWord::Encode, Step::Media(MediaStep::Encode { on: _, content })) => {
+            let content = content.step;
+            let handed = handed_in(script, known, tables, codec, place, who, error, content)?;
+            Ok(encode_of(handed))
+        }
+        (CallWord::Flush, Step::Flush { on: _, bind: _ }) => Ok(Some(Call::Flush)),
+        (CallWord::Reset, Step::Reset { on: _ }) => Ok(Some(Call::Reset)),
+        (CallWord::Close, Step::Close { on: _ }) => Ok(Some(Call::Close)),
         _ => Ok(None),
     }
 }
 
-// The entry of an encode with this exception, with the arguments of its step.
-fn encode_entry(
+// A take of the output with this number, if the step takes one.
+fn take_of(unit: u64, step: &Step) -> Option<Call>
+    ensures { result ≡ spec.take_of unit step.now }
+{
+    match step {
+        Step::Media(MediaStep::Take { .. }) => Some(Call::Take(unit)),
+        _ => None,
+    }
+}
+
+// The call of a line that tells one by this caller's step.
+fn call_at(
     script: &ScriptData,
+    media: &[List<Chunk>],
     known: &Known,
     tables: &Tables,
     codec: usize,
     place: u64,
     who: Who,
+    word: CallWord,
     error: Option<DomError>,
-) -> Result<Option<Entry>, NoMemory>
+) -> Result<Option<Call>, NoMemory>
     requires { AreTables script.now known.now tables.now }
-    ensures { IfOk result (λ o. o ≡ spec.by_step script.now who (spec.encode_of known.now
-        (steps_of script.now who.caller) codec place who error)) }
+    ensures { let steps = steps_of script.now who.caller in
+        IfOk result (λ o. o ≡ option_and_then
+        (spec.call_of media.now known.now steps codec place who word error)
+        (slice_get steps who.step)) }
 {
     match steps_of(script, who.caller).get(who.step as usize) {
-        Some(step) => encode_of(script, known, tables, codec, place, who, error, step),
+        Some(step) => call_of(
+            script, media, known, tables, codec, place, who, word, error, step,
+        ),
         None => Ok(None),
     }
 }
 
-// A take of the output with this number, if the step takes one.
-fn take_of(who: Who, unit: u64, step: &Step) -> Option<Entry>
-    ensures { result ≡ spec.take_of who unit step.now }
+// The take of a line that tells one by this caller's step.
+fn take_at(script: &ScriptData, who: Who, unit: u64) -> Option<Call>
+    ensures { result
+        ≡ option_and_then (spec.take_of unit) (slice_get (steps_of script.now who.caller) who.step) }
 {
-    match step {
-        Step::Media(MediaStep::Take { .. }) => Some(Entry::Take { who, unit }),
-        _ => None,
+    match steps_of(script, who.caller).get(who.step as usize) {
+        Some(step) => take_of(unit, step),
+        None => None,
     }
 }
 
-// The entry of a take, where its step is one.
-fn take_entry(script: &ScriptData, who: Who, unit: u64) -> Option<Entry>
-    ensures { result ≡ spec.by_step script.now who (spec.take_of who unit) }
+// The entry of a call, if there is one.
+fn entry_with(who: Who, call: Option<Call>) -> Option<Entry>
+    ensures { result ≡ option_map (λ x. Entry.Call who x) call }
 {
-    match steps_of(script, who.caller).get(who.step as usize) {
-        Some(step) => take_of(who, unit, step),
+    match call {
+        Some(call) => Some(Entry::Call { who, call }),
         None => None,
     }
 }
@@ -250,11 +229,11 @@ pub fn entry_of(
         (λ o. o ≡ spec.entry_of script.now media.now known.now codec place line) }
 {
     match line {
-        EntryLine::Call { who, call, error } => match call {
-            CallWord::Encode => encode_entry(script, known, tables, codec, place, who, error),
-            _ => call_entry(script, media, known, who, call),
-        },
-        EntryLine::Take { who, unit } => Ok(take_entry(script, who, unit)),
+        EntryLine::Call { who, call, error } => {
+            let call = call_at(script, media, known, tables, codec, place, who, call, error)?;
+            Ok(entry_with(who, call))
+        }
+        EntryLine::Take { who, unit } => Ok(entry_with(who, take_at(script, who, unit))),
         EntryLine::Start { epoch, item } => Ok(Some(Entry::Start { epoch, item })),
         EntryLine::Done {
             epoch,

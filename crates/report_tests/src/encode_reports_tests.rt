@@ -1,6 +1,6 @@
 // Reports of runs in which a caller encodes what it took from a decoder, and decodes what it took from the encoder, read back
 // and written again; and texts with a fault at a line that was counted by hand.
-use codec_model::{Entry, Handed, HeldSound, Pair};
+use codec_model::{Call, Entry, Handed, HeldSound, Pair};
 use report_reader::{ReportFault, read_report};
 use script_types::Script;
 use std::alloc::Global;
@@ -328,9 +328,9 @@ fn each_is_judged(
 fn handed_at(trace: &CodecTrace, number: usize) -> Option<(Who, &HeldSound)> {
     match trace.entries.as_slice().get(number) {
         Some(
-            Entry::Encode {
+            Entry::Call {
                 who,
-                handed: Handed::Cloned(sound),
+                call: Call::Encode(Handed::Cloned(sound)),
             },
         ) => Some((*who, sound)),
         _ => None,

@@ -9,7 +9,7 @@ ghost use Rattle.script_types.specs.Sound.{is_sound};
 ghost use Rattle.row_tests.specs.ReportRows.{init, steps_with, takes};
 
 use bytes::Bytes;
-use codec_model::Entry;
+use codec_model::{Call, Entry};
 use report_reader::{ReportFault, read_report};
 use script_types::{
     CallerItem, ChunkInit, ChunkSource, CodecItem, Kind, MediaStep, Script, ScriptData, Step,
@@ -290,7 +290,8 @@ fn takes_are_read_and_written_again(rt: HostRuntime) -> Result<(), Fail> {
     let codec = run.codecs.as_slice().first().expect(&rt, "a codec");
     let last = codec.entries.as_slice().last().expect(&rt, "an entry");
     let who = Who { caller: 0, step: 5 };
-    assert!(rt; *last == Entry::Take { who, unit: 0 });
+    let call = Call::Take(0);
+    assert!(rt; *last == Entry::Call { who, call });
     assert_eq!(rt; report(alloc, &script, &run)?.bytes(), text.as_bytes());
     Ok(())
 }

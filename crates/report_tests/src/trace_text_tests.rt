@@ -4,7 +4,7 @@ ghost use Rattle.row_tests.specs.ReportRows.{decoder};
 
 use bytes::Bytes;
 use codec_model::{
-    CodecState, Entry, Event, Kind, Opening, Outcome, PromiseState, Shown, TurnWord,
+    Call, CodecState, Entry, Event, Kind, Opening, Outcome, PromiseState, Shown, TurnWord,
 };
 use coder_api::{SlotEntry, SlotOp, Unit};
 use script_types::{CallerItem, CodecItem, Script, ScriptData};
@@ -108,6 +108,13 @@ fn done(item: u64, moment: u64, units: u64) -> Entry {
     }
 }
 
+fn called(step: u32, call: Call) -> Entry {
+    Entry::Call {
+        who: who(step),
+        call,
+    }
+}
+
 fn calls(alloc: Global) -> Result<Vec<Entry>, Fail> {
     let bytes = Bytes::from_vec(vec![in alloc; 1, 0, 2, 0]?)?;
     let chunk = Chunk {
@@ -116,12 +123,9 @@ fn calls(alloc: Global) -> Result<Vec<Entry>, Fail> {
         duration: None,
         bytes,
     };
-    let configure = Entry::Configure {
-        who: who(0),
-        config: Config::Bad,
-    };
-    let decode = Entry::Decode { who: who(2), chunk };
-    let flush = Entry::Flush { who: who(3) };
+    let configure = called(0, Call::Configure(Config::Bad));
+    let decode = called(2, Call::Decode(chunk));
+    let flush = called(3, Call::Flush);
     Ok(vec![in alloc; configure, decode, flush]?)
 }
 
@@ -316,8 +320,8 @@ fn failed(item: u64, outcome: Outcome) -> Entry {
 }
 
 fn other_entries(alloc: Global) -> Result<Vec<Entry>, Fail> {
-    let reset = Entry::Reset { who: who(0) };
-    let close = Entry::Close { who: who(1) };
+    let reset = called(0, Call::Reset);
+    let close = called(1, Call::Close);
     let refused = failed(0, Outcome::Refused);
     let none = failed(1, Outcome::NoSlot { entry: 7 });
     let memory = failed(2, Outcome::NoMemory);

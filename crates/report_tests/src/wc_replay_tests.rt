@@ -6,7 +6,7 @@ ghost use Rattle.script_types.specs.declared.script.OrderItem.TheVariants as ite
 ghost use Rattle.row_tests.specs.ReportRows.{order, other, steps_with, file_script, two_chunks};
 
 use bytes::Bytes;
-use codec_model::Entry;
+use codec_model::{Call, Entry};
 use coder_api::CoderBox;
 use script_types::{
     CallerItem, ChunkSource, CodecItem, Kind, OrderItem, Script, ScriptData, Step, Variable,
@@ -175,9 +175,9 @@ fn a_chunk_of_a_file_is_decoded(rt: HostRuntime) -> Result<(), Fail> {
     let local = StepResult::Local { error: None };
     let results = vec![in alloc; call(0), local, call(1), call(2)]?;
     assert!(rt; caller.results.as_slice().starts_with(results.as_slice()));
-    let decode = Entry::Decode {
+    let decode = Entry::Call {
         who: Who { caller: 0, step: 2 },
-        chunk: chunk(alloc)?,
+        call: Call::Decode(chunk(alloc)?),
     };
     assert!(rt;
         codec

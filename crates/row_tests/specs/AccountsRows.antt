@@ -3,6 +3,7 @@ use Rattle.std.specs.Prelude.{◌≡◌, List, [], ◌∷◌, Some, None, codes}
 use Rattle.wc_config.specs.declared.config.Config.{Config}
 use Rattle.wc_config.specs.declared.config.Config.TheVariants as config
 use Rattle.codec_model.specs.declared.entry.Outcome.TheVariants as outcome
+use Rattle.codec_model.specs.declared.entry.Call.TheVariants as call
 use Rattle.codec_model.specs.declared.entry.Entry.{Entry}
 use Rattle.codec_model.specs.declared.entry.Entry.TheVariants as entry
 use Rattle.row_tests.specs.CodecRows.{four, pcm, step_of, ordinary, resetting}
@@ -27,9 +28,9 @@ ulaw = config.AudioDecoder (record { codec = codes "ulaw"; rate = 8000; channels
 
 abbrev pub changing : List Entry
 changing =
-    entry.Configure (step_of 0) pcm ∷ entry.Start 0 0 ∷ entry.Done 0 0 1 (outcome.Ran 0) ∷ entry.Turn ∷ entry.Turn
-    ∷ entry.Configure (step_of 1) ulaw ∷ entry.Start 0 1 ∷ entry.Done 0 1 2 (outcome.Ran 0) ∷ entry.Turn ∷ entry.Turn
-    ∷ entry.Close (step_of 2) ∷ []
+    entry.Call (step_of 0) (call.Configure pcm) ∷ entry.Start 0 0 ∷ entry.Done 0 0 1 (outcome.Ran 0) ∷ entry.Turn ∷ entry.Turn
+    ∷ entry.Call (step_of 1) (call.Configure ulaw) ∷ entry.Start 0 1 ∷ entry.Done 0 1 2 (outcome.Ran 0) ∷ entry.Turn ∷ entry.Turn
+    ∷ entry.Call (step_of 2) call.Close ∷ []
 
 -- a start that asks for another coder lets the box go, and a close with no item at work lets go the other
 pub record LeavesForAnother : Type 0 where

@@ -10,6 +10,7 @@ use Rattle.codec_definitions.specs.declared.unit.Unit as media
 use Rattle.codec_definitions.specs.declared.unit.Unit.TheVariants.{Sound}
 use Rattle.codec_model.specs.declared.entry.CodecState.TheVariants.{Configured}
 use Rattle.codec_model.specs.declared.entry.Outcome.TheVariants as outcome
+use Rattle.codec_model.specs.declared.entry.Call.TheVariants as call
 use Rattle.codec_model.specs.declared.entry.Entry.{Entry}
 use Rattle.codec_model.specs.declared.entry.Entry.TheVariants as entry
 use Rattle.codec_model.specs.declared.entry.Opening.{Opening}
@@ -40,7 +41,7 @@ unit = Sound (record { shape = record { format = S16; rate = 8000; channels = 1;
 
 abbrev pub ordinary : List Entry
 ordinary =
-    entry.Configure (step_of 0) pcm ∷ entry.Decode (step_of 2) chunk ∷ entry.Flush (step_of 3)
+    entry.Call (step_of 0) (call.Configure pcm) ∷ entry.Call (step_of 2) (call.Decode chunk) ∷ entry.Call (step_of 3) call.Flush
     ∷ entry.Start 0 0 ∷ entry.Done 0 0 1 (outcome.Ran 0) ∷ entry.Turn ∷ entry.Turn
     ∷ entry.Start 0 1 ∷ entry.Done 0 1 2 (outcome.Ran 1) ∷ entry.Turn ∷ entry.Turn
     ∷ entry.Start 0 2 ∷ entry.Done 0 2 3 (outcome.Ran 0) ∷ entry.Turn ∷ []
@@ -77,7 +78,7 @@ OrdinaryShows = shown four ordinary ≡ (9, Dequeue) ∷ (10, Output 0 unit) ∷
 
 -- a wrong number of units is not legal
 abbrev pub WrongCount : Type 0
-WrongCount = replay four (entry.Configure (step_of 0) pcm ∷ entry.Start 0 0 ∷ entry.Done 0 0 1 (outcome.Ran 1) ∷ []) ≡ None
+WrongCount = replay four (entry.Call (step_of 0) (call.Configure pcm) ∷ entry.Start 0 0 ∷ entry.Done 0 0 1 (outcome.Ran 1) ∷ []) ≡ None
 
 abbrev pub sample : ℕ → Chunk
 sample n = record { key = true; timestamp = pos 0; duration = None; bytes = n ∷ 0 ∷ [] }
@@ -87,7 +88,7 @@ sample_unit n = Sound (record { shape = record { format = S16; rate = 8000; chan
 
 abbrev pub saturating : List Entry
 saturating =
-    entry.Configure (step_of 0) pcm ∷ entry.Decode (step_of 1) (sample 1) ∷ entry.Decode (step_of 2) (sample 2) ∷ entry.Decode (step_of 3) (sample 3)
+    entry.Call (step_of 0) (call.Configure pcm) ∷ entry.Call (step_of 1) (call.Decode (sample 1)) ∷ entry.Call (step_of 2) (call.Decode (sample 2)) ∷ entry.Call (step_of 3) (call.Decode (sample 3))
     ∷ entry.Start 0 0 ∷ entry.Done 0 0 1 (outcome.Ran 0) ∷ entry.Turn ∷ entry.Turn
     ∷ entry.Start 0 1 ∷ entry.Done 0 1 2 (outcome.Ran 1) ∷ entry.Start 0 2 ∷ entry.Done 0 2 3 (outcome.Ran 1)
     ∷ entry.Turn ∷ entry.Turn ∷ entry.Turn ∷ entry.Turn ∷ entry.Turn
@@ -99,9 +100,9 @@ SaturatingShows = shown two saturating ≡ (12, Dequeue) ∷ (14, Output 0 (samp
 
 abbrev pub resetting : List Entry
 resetting =
-    entry.Configure (step_of 0) pcm ∷ entry.Decode (step_of 1) (sample 1)
+    entry.Call (step_of 0) (call.Configure pcm) ∷ entry.Call (step_of 1) (call.Decode (sample 1))
     ∷ entry.Start 0 0 ∷ entry.Done 0 0 1 (outcome.Ran 0) ∷ entry.Turn ∷ entry.Turn ∷ entry.Start 0 1
-    ∷ entry.Reset (step_of 2) ∷ entry.Configure (step_of 3) pcm ∷ entry.Decode (step_of 4) (sample 2)
+    ∷ entry.Call (step_of 2) call.Reset ∷ entry.Call (step_of 3) (call.Configure pcm) ∷ entry.Call (step_of 4) (call.Decode (sample 2))
     ∷ entry.Done 0 1 2 (outcome.Ran 1) ∷ entry.Turn
     ∷ entry.Start 1 0 ∷ entry.Done 1 0 3 (outcome.Ran 0) ∷ entry.Turn ∷ entry.Turn
     ∷ entry.Start 1 1 ∷ entry.Done 1 1 4 (outcome.Ran 1) ∷ entry.Turn ∷ entry.Turn ∷ []
@@ -112,8 +113,8 @@ ResettingShows = shown four resetting ≡ (11, Dequeue) ∷ (18, Dequeue) ∷ (1
 
 abbrev pub closing : List Entry
 closing =
-    entry.Configure (step_of 0) pcm ∷ entry.Flush (step_of 1) ∷ entry.Flush (step_of 2) ∷ entry.Close (step_of 3)
-    ∷ entry.Close (step_of 4) ∷ entry.Flush (step_of 5) ∷ []
+    entry.Call (step_of 0) (call.Configure pcm) ∷ entry.Call (step_of 1) call.Flush ∷ entry.Call (step_of 2) call.Flush ∷ entry.Call (step_of 3) call.Close
+    ∷ entry.Call (step_of 4) call.Close ∷ entry.Call (step_of 5) call.Flush ∷ []
 
 abbrev pub ClosingShows : Type 0
 ClosingShows = shown four closing ≡ (3, Reject 1 dom.Abort) ∷ (3, Reject 2 dom.Abort) ∷ (4, Refusal dom.InvalidState) ∷ (5, Reject 5 dom.InvalidState) ∷ []

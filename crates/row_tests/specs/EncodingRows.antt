@@ -19,6 +19,7 @@ use Rattle.codec_model.specs.declared.entry.Opening.{Opening}
 use Rattle.codec_model.specs.declared.entry.Pair.{Pair}
 use Rattle.codec_model.specs.declared.entry.Handed.TheVariants as handed
 use Rattle.codec_model.specs.declared.entry.Outcome.TheVariants as outcome
+use Rattle.codec_model.specs.declared.entry.Call.TheVariants as call
 use Rattle.codec_model.specs.declared.entry.Entry.{Entry}
 use Rattle.codec_model.specs.declared.entry.Entry.TheVariants as entry
 use Rattle.codec_model.specs.declared.entry.Event.TheVariants as event
@@ -86,9 +87,9 @@ clone = record { resource = 0; reference = 1 }
 
 abbrev pub entries : List Entry
 entries =
-    entry.Configure (step_of 0) pcm_encoder ∷ entry.Encode (step_of 2) (handed.Cloned (record { samples = sound; pair = clone }))
+    entry.Call (step_of 0) (call.Configure pcm_encoder) ∷ entry.Call (step_of 2) (call.Encode (handed.Cloned (record { samples = sound; pair = clone })))
     ∷ entry.Start 0 0 ∷ entry.Done 0 0 1 (outcome.Ran 0) ∷ entry.Turn ∷ entry.Turn
-    ∷ entry.Start 0 1 ∷ entry.Done 0 1 2 (outcome.Ran 1) ∷ entry.Turn ∷ entry.Turn ∷ entry.Take (step_of 4) 0 ∷ []
+    ∷ entry.Start 0 1 ∷ entry.Done 0 1 2 (outcome.Ran 1) ∷ entry.Turn ∷ entry.Turn ∷ entry.Call (step_of 4) (call.Take 0) ∷ []
 
 abbrev pub coded : Chunk
 coded = record { key = true; timestamp = pos 0; duration = Some 250; bytes = 1 ∷ 0 ∷ 2 ∷ 0 ∷ [] }

@@ -9,6 +9,7 @@ use Rattle.codec_model.specs.declared.entry.Opening.{Opening}
 use Rattle.codec_model.specs.declared.entry.HeldSound.{HeldSound}
 use Rattle.codec_model.specs.declared.entry.Handed.TheVariants as handed
 use Rattle.codec_model.specs.declared.entry.Outcome.TheVariants as outcome
+use Rattle.codec_model.specs.declared.entry.Call.TheVariants as call
 use Rattle.codec_model.specs.declared.entry.Entry.{Entry}
 use Rattle.codec_model.specs.declared.entry.Entry.TheVariants as entry
 use Rattle.codec_model.specs.declared.entry.Event.TheVariants.{Output, Dequeue}
@@ -30,7 +31,7 @@ OrdinaryFills = each_filled four ordinary (unit ∷ []) ≡ each_shown four ordi
 -- a decode whose item is told to have given so many units
 abbrev pub decoding : ℕ → List Entry
 decoding units =
-    entry.Configure (step_of 0) pcm ∷ entry.Decode (step_of 1) chunk
+    entry.Call (step_of 0) (call.Configure pcm) ∷ entry.Call (step_of 1) (call.Decode chunk)
     ∷ entry.Start 0 0 ∷ entry.Done 0 0 1 (outcome.Ran 0) ∷ entry.Turn ∷ entry.Turn
     ∷ entry.Start 0 1 ∷ entry.Done 0 1 2 (outcome.Ran units) ∷ entry.Turn ∷ entry.Turn ∷ []
 
@@ -42,12 +43,12 @@ ThreeShown =
 
 -- a configure item gives no unit
 abbrev pub ConfigureGivesNone : Type 0
-ConfigureGivesNone = follows four (entry.Configure (step_of 0) pcm ∷ entry.Start 0 0 ∷ entry.Done 0 0 1 (outcome.Ran 1) ∷ []) ≡ None
+ConfigureGivesNone = follows four (entry.Call (step_of 0) (call.Configure pcm) ∷ entry.Start 0 0 ∷ entry.Done 0 0 1 (outcome.Ran 1) ∷ []) ≡ None
 
 -- a configure and a flush whose item is refused
 abbrev pub refusing : Config → List Entry
 refusing c =
-    entry.Configure (step_of 0) c ∷ entry.Flush (step_of 1) ∷ entry.Start 0 0 ∷ entry.Done 0 0 1 (outcome.Ran 0) ∷ entry.Turn ∷ entry.Turn
+    entry.Call (step_of 0) (call.Configure c) ∷ entry.Call (step_of 1) call.Flush ∷ entry.Start 0 0 ∷ entry.Done 0 0 1 (outcome.Ran 0) ∷ entry.Turn ∷ entry.Turn
     ∷ entry.Start 0 1 ∷ entry.Done 0 1 2 outcome.Refused ∷ []
 
 abbrev pub raw_video : Config
@@ -78,7 +79,7 @@ silence = record {
 -- an encode whose item is told to have given so many units
 abbrev pub encoding : ℕ → List Entry
 encoding units =
-    entry.Configure (step_of 0) flac ∷ entry.Encode (step_of 1) (handed.Cloned silence)
+    entry.Call (step_of 0) (call.Configure flac) ∷ entry.Call (step_of 1) (call.Encode (handed.Cloned silence))
     ∷ entry.Start 0 0 ∷ entry.Done 0 0 1 (outcome.Ran 0) ∷ entry.Turn ∷ entry.Turn
     ∷ entry.Start 0 1 ∷ entry.Done 0 1 2 (outcome.Ran units) ∷ entry.Turn ∷ entry.Turn ∷ []
 

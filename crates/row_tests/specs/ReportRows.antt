@@ -12,6 +12,7 @@ use Rattle.wc_config.specs.declared.codec.CodecId.TheVariants.{PcmS16}
 use Rattle.wc_config.specs.declared.codec.Role.TheVariants as role
 use Rattle.coder_api.specs.declared.slot.SlotEntry.{SlotEntry}
 use Rattle.coder_api.specs.declared.slot.SlotOp.TheVariants as slot
+use Rattle.codec_model.specs.declared.entry.Call.TheVariants as call
 use Rattle.codec_model.specs.declared.entry.Entry.{Entry}
 use Rattle.codec_model.specs.declared.entry.Entry.TheVariants as entry
 use Rattle.codec_model.specs.declared.entry.Event.{Event}
@@ -178,7 +179,7 @@ taking_script = record {
 }
 
 abbrev pub taking_history : List Entry
-taking_history = ordinary ++ entry.Take (step_of 5) 0 ∷ []
+taking_history = ordinary ++ entry.Call (step_of 5) (call.Take 0) ∷ []
 
 abbrev pub taking_results : List StepResult
 taking_results = results ++ result.Unit 0 14 0 ∷ result.NoUnit 0 15 ∷ []

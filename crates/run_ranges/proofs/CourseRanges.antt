@@ -17,7 +17,7 @@ use Rattle.coder_api.specs.{Meaning.is_id, declared.slot.SlotEntry.SlotEntry, de
 use Rattle.slot_registry.specs.Boxes.{is_out, made_of, out_of, least_free}
 use Rattle.slot_registry.specs.Slots.{SlotsValue, acquire_op, acquire_entry}
 use Rattle.codec_definitions.specs.declared.unit.Unit as output
-use Rattle.codec_model.specs.declared.entry.{Opening.Opening, Pair.Pair, Handed.Handed, Entry.Entry}
+use Rattle.codec_model.specs.declared.entry.{Opening.Opening, Pair.Pair, Handed.Handed, Call.Call, Entry.Entry}
 use Rattle.codec_model.specs.{Control.start_item, Control.may_reclaim, Shown.shown, Shown.outputs_of}
 use Rattle.codec_model.specs.Replay.{State, opening_state, step as legal_step, replay, replay_from, is_configured}
 use Rattle.codec_model.specs.Held.{running_pairs, waiting_held, held_in, is_removal, is_done, lets_go, leaves_held, adds_held, HeldStays}
@@ -30,7 +30,7 @@ use Rattle.report_text.specs.declared.result.StepResult.{StepResult}
 use Rattle.media_variables.specs.Variables.{Medium, Media, Came, Brought, sound_at, handed_by, entries_of, media_came, variables_of}
 use Rattle.media_variables.specs.Held.{ends_behind, clones_of}
 use Rattle.media_accounts.specs.Accounts.{pool_by}
-use Rattle.trace_text.specs.Follow.{Course, opening_of, steps_of, output_at, chunk_by, chunk_at, chunk_for, Move, Idle, Answer, Advance, Ask, Handle, Receive, with_entry, with_media, after_move, turn_on, advance, decode_move, encode_move, found_at, handle_move, take_move, media_move, copied_chunk, step_move, next_move, item_move, follow_item, Follows, nothing_yet, order_items}
+use Rattle.trace_text.specs.Follow.{Course, opening_of, steps_of, output_at, chunk_by, chunk_at, chunk_for, Move, Idle, Answer, Advance, Ask, Handle, Receive, take_entry, with_entry, with_media, after_move, turn_on, advance, call_move, encode_of, found_at, handle_move, take_move, media_move, copied_chunk, step_move, next_move, item_move, follow_item, Follows, nothing_yet, order_items}
 use Rattle.history_laws.specs.{Outputs.HoldsOwn, OutputLaws.outputs_are, CountLaws.outputs_each}
 use Rattle.run_ranges.specs.Counts.{all_from, all_at}
 use Rattle.run_ranges.specs.Ranges.{IsMoment, IsConfigWithin, IsChunkWithin, IsShapeWithin, AreWithin}
@@ -40,11 +40,16 @@ use Rattle.run_ranges.proofs.MediaRanges.{AreVariables, IsChunkThere, chunk_foun
 
 -- ---- what stands of a course
 
--- what an entry was given, and its moment, are within their types; a config that is not valid is not looked at
+-- what a call was given is within its types; a config that is not valid is not looked at
+abbrev pub IsOwnCall : Call → Type 0
+IsOwnCall (Call.Configure config) = is_valid config ≡ true → IsConfigWithin config
+IsOwnCall (Call.Decode chunk) = IsChunkWithin chunk
+IsOwnCall (Call.Encode (Handed.Cloned sound)) = AreSamplesWithin sound.samples
+IsOwnCall x = Unit {0}
+
+-- and so is an entry's moment
 abbrev pub IsOwnEntry : Entry → Type 0
-IsOwnEntry (Entry.Configure who config) = is_valid config ≡ true → IsConfigWithin config
-IsOwnEntry (Entry.Decode who chunk) = IsChunkWithin chunk
-IsOwnEntry (Entry.Encode who (Handed.Cloned sound)) = AreSamplesWithin sound.samples
+IsOwnEntry (Entry.Call who x) = IsOwnCall x
 IsOwnEntry (Entry.Done epoch number moment o) = moment < 2 ^ 64
 IsOwnEntry (Entry.Reclaim moment) = moment < 2 ^ 64
 IsOwnEntry e = Unit {0}
@@ -119,7 +124,7 @@ either_few : (a b : Bool) (xs ys zs : List Pair) (n : ℕ) → length xs ≤ n �
 either_few a b xs ys zs n x y z = cond_both a xs (cond b ys zs) (λ ps. length ps ≤ n) (λ is. x) (λ is. cond_both b ys zs (λ ps. length ps ≤ n) (λ is. y) (λ is. z))
 
 adds_few : (e : Entry) → length (adds_held e) ≤ 1
-adds_few (Entry.Encode who (Handed.Cloned sound)) = omega arith
+adds_few (Entry.Call who (Call.Encode (Handed.Cloned sound))) = omega arith
 adds_few e = omega arith
 
 replay_few : HeldStays → (h : List Entry) (s t : State) → replay_from h s ≡ Some t → length (held_in t) ≤ length (held_in s) + length h
@@ -228,9 +233,9 @@ abbrev MoveHolds : Move → Type 0
 MoveHolds Idle = Unit {0}
 MoveHolds (Answer c r) = Unit {0}
 MoveHolds (Advance k e) = IsOwnEntry e
-MoveHolds (Ask c k e error) = IsOwnEntry e
+MoveHolds (Ask who k x) = IsOwnCall x
 MoveHolds (Handle who y) = AreVariables y.variables
-MoveHolds (Receive who k e y) = IsOwnEntry e × AreVariables y.variables
+MoveHolds (Receive who k n y) = AreVariables y.variables
 
 -- an item adds an entry of a codec at most, and so much to the pool
 settled : (n b q most : ℕ) (u : Course) → b ≤ n + 1 → q ≤ n * n + 2 * n + n + 1 + 1 → IsCourseUpTo b q most u.codecs u.slots u.media → IsCourseAfter (n + 1) most u
@@ -244,10 +249,11 @@ settled n b q most u entries pool h = record {
 
 move_up : HeldStays → (n most : ℕ) (m : Move) (v : Course) → MoveHolds m → IsCourseAfter n most v → IsCourseAfter (n + 1) most (after_move m v)
 move_up stays n most (Advance k e) v own h = settled n _ _ most (with_entry k e v) (omega arith) (omega arith) (entry_up stays n _ most k e v own h)
-move_up stays n most (Ask c k e error) v own h = settled n _ _ most (with_entry k e v) (omega arith) (omega arith) (entry_up stays n _ most k e v own h)
+move_up stays n most (Ask who k x) v own h = let e = Entry.Call who x in settled n _ _ most (with_entry k e v) (omega arith) (omega arith) (entry_up stays n _ most k e v own h)
 move_up stays n most (Handle who y) v own h = settled n _ _ most (with_media who y v) (omega arith) (omega arith) (media_up n _ most who y v own h)
-move_up stays n most (Receive who k e y) v own h =
-    settled n _ _ most (with_media who y (with_entry k e v)) (omega arith) (omega arith) (media_up (n + 1) _ most who y (with_entry k e v) own.1 (entry_up stays n _ most k e v own.0 h))
+move_up stays n most (Receive who k number y) v own h =
+    let e = take_entry who number in
+    settled n _ _ most (with_media who y (with_entry k e v)) (omega arith) (omega arith) (media_up (n + 1) _ most who y (with_entry k e v) own (entry_up stays n _ most k e v tt h))
 move_up stays n most _ v own h = settled n _ _ most v (omega arith) (omega arith) h
 
 -- ---- what steps are given
@@ -262,18 +268,18 @@ contents_within s media made c j (MediaStep.Frame bind (Some init)) within is = 
 contents_within s media made c j x within is = tt
 
 -- what an encode hands over
-handed_own : (who : Who) (number : ℕ) (accepts : Bool) (shape : SoundShape) (held : Option MediaRef) → IsShapeWithin shape → IsRefWithin held → IsOwnEntry (Entry.Encode who (handed_by number accepts shape held))
-handed_own who number true shape (Some r) own small = (own, small)
-handed_own who number false shape (Some r) own small = tt
-handed_own who number accepts shape None own small = tt
+handed_own : (number : ℕ) (accepts : Bool) (shape : SoundShape) (held : Option MediaRef) → IsShapeWithin shape → IsRefWithin held → IsOwnCall (Call.Encode (handed_by number accepts shape held))
+handed_own number true shape (Some r) own small = (own, small)
+handed_own number false shape (Some r) own small = tt
+handed_own number accepts shape None own small = tt
 
 -- ---- outputs
 
 -- so an entry passes with the judge of outputs
 pub holds_own : (laws : CodesAreBytes) (e : Entry) → IsOwnEntry e → HoldsOwn (judge laws) e
-holds_own laws (Entry.Configure who config) own = own
-holds_own laws (Entry.Decode who chunk) own = own
-holds_own laws (Entry.Encode who (Handed.Cloned sound)) own = own
+holds_own laws (Entry.Call who (Call.Configure config)) own = own
+holds_own laws (Entry.Call who (Call.Decode chunk)) own = own
+holds_own laws (Entry.Call who (Call.Encode (Handed.Cloned sound))) own = own
 holds_own laws _ own = tt
 
 -- each output of a history
@@ -295,12 +301,12 @@ media_holds : CodesAreBytes → (s : ScriptData) (media : List (List Chunk)) (wh
 media_holds laws s media who (MediaStep.Take on bind kind) v content h =
     let b : Brought = record { chunk = None; taken = found_at on (codec_at on v.codecs) } in
     let vs = variables_of who.caller v.media.variables in
-    by_option (λ o. IsCameWithin o → MoveHolds (take_move who on (codec_at on v.codecs) o)) (media_came v.media.pool who b (MediaStep.Take on bind kind) vs) (λ none. tt) (λ y is fine. (tt, fine))
+    by_option (λ o. IsCameWithin o → MoveHolds (take_move who on (codec_at on v.codecs) o)) (media_came v.media.pool who b (MediaStep.Take on bind kind) vs) (λ none. tt) (λ y is fine. fine)
     (came_within s v.media.pool who b (MediaStep.Take on bind kind) vs content (found_own laws on v h) (h.variables who.caller))
 media_holds laws s media who (MediaStep.Encode on sound) v content h =
     let vs = variables_of who.caller v.media.variables in
-    by_option (λ o. IsSoundThere o → MoveHolds (encode_move who on v.media.pool o (codec_at on v.codecs))) (sound_at vs sound.step) (λ none. tt)
-    (λ x is fine. handed_own who (references_made v.media.pool) (is_configured (state_of (codec_at on v.codecs)).control) x.shape x.held fine.0 fine.1) (sound_found vs sound.step (h.variables who.caller))
+    by_option (λ o. IsSoundThere o → MoveHolds (call_move who on (option_map (encode_of v.media.pool (codec_at on v.codecs)) o))) (sound_at vs sound.step) (λ none. tt)
+    (λ x is fine. handed_own (references_made v.media.pool) (is_configured (state_of (codec_at on v.codecs)).control) x.shape x.held fine.0 fine.1) (sound_found vs sound.step (h.variables who.caller))
 media_holds laws s media who x v content h =
     let b : Brought = record { chunk = copied_chunk media (steps_of s who.caller) x; taken = None } in
     let vs = variables_of who.caller v.media.variables in
@@ -311,7 +317,7 @@ step_holds laws s media made who (Step.Configure on config) v within is h = λ v
 step_holds laws s media made who (Step.Decode on chunk) v within is h =
     let vs = variables_of who.caller v.media.variables in
     let steps = steps_of s who.caller in
-    by_option (λ o. IsChunkThere o → MoveHolds (decode_move who on o (codec_at on v.codecs))) (chunk_for media steps vs chunk.step) (λ none. tt) (λ x is fine. fine) (chunk_found (chunk_at media steps chunk.step) vs chunk.step (chunk_made s media made within who.caller chunk.step) (h.variables who.caller))
+    by_option (λ o. IsChunkThere o → MoveHolds (call_move who on (option_map Call.Decode o))) (chunk_for media steps vs chunk.step) (λ none. tt) (λ x is fine. fine) (chunk_found (chunk_at media steps chunk.step) vs chunk.step (chunk_made s media made within who.caller chunk.step) (h.variables who.caller))
 step_holds laws s media made who (Step.Media x) v within is h = media_holds laws s media who x v (contents_within s media made who.caller who.step x within is) h
 step_holds laws s media made who _ v within is h = tt
 

@@ -1,5 +1,5 @@
 -- The lines of one codec's legal history are within their types.
-use Rattle.std.proofs.Common.{ℕ, ◌≡◌, ◌<◌, ◌≤◌, ◌+◌, ◌^◌, ◌&&◌, true, eqb, List, [], ◌∷◌, ◌++◌, length, Option, Some, None, is_some, refl, subst, ◌∙◌, arith, lit<}
+use Rattle.std.proofs.Common.{ℕ, ◌≡◌, ◌<◌, ◌≤◌, ◌+◌, ◌^◌, ◌&&◌, true, eqb, List, [], ◌∷◌, ◌++◌, length, Option, Some, None, IfSome, is_some, refl, subst, ◌∙◌, arith, lit<}
 use Rattle.std.specs.Prelude.{flat_map}
 use Rattle.std.specs.List.{AllByRecursion, zip}
 use Rattle.std.proofs.lemmas.Bool.{and_parts, eqb-true}
@@ -7,19 +7,18 @@ use Rattle.wc_base.specs.{Options.cond_is, declared.error.DomError.DomError}
 use Rattle.codec_definitions.specs.declared.unit.Unit as media
 use Rattle.codec_definitions.specs.declared.unit.Unit.TheVariants as unit
 use Rattle.wc_config.specs.declared.config.AudioDecoderConfig.{AudioDecoderConfig}
-use Rattle.codec_model.specs.declared.entry.{Opening.Opening, Removal.Removal, Call.Call, Entry.Entry, Event.Event, Shown.Shown, WorkKind.WorkKind}
-use Rattle.codec_model.specs.{declared.entry.Task.Task, declared.entry.Ended.Ended, declared.entry.Outcome.Outcome, ShownLaws.replay_append, StepLaws.EachStep, StepLaws.by_call, StepLaws.by_steps}
+use Rattle.codec_model.specs.declared.entry.{Opening.Opening, Call.Call, Entry.Entry, Event.Event, Shown.Shown, WorkKind.WorkKind}
+use Rattle.codec_model.specs.{declared.entry.Task.Task, declared.entry.Ended.Ended, declared.entry.Outcome.Outcome, ShownLaws.replay_append, StepLaws.EachStep, StepLaws.by_steps}
 use Rattle.codec_model.specs.Control.{Control, may_start, carried}
-use Rattle.codec_model.specs.Replay.{State, Given, entry_of, removal_entry, step, replay, replay_from, ended_of, ended_run, answer_to, decoder_config, labelled}
-use Rattle.codec_model.specs.Shown.{refusal, rejection, rejections, outputs_from, turn_shows, removal_shows, shows, units_in, shown_at, each_shown_from}
+use Rattle.codec_model.specs.Replay.{State, Given, call_error, step, replay, replay_from, ended_of, ended_run, answer_to, decoder_config, labelled}
+use Rattle.codec_model.specs.Shown.{rejections, refused_shows, promise_of, call_shows, outputs_from, turn_shows, shows, units_in, shown_at, each_shown_from}
 use Rattle.codec_model.specs.Facts.{NamesEarlier, IsNeverStuck, Always}
 use Rattle.codec_model.specs.Earlier.{pending_below, resolved_below}
 use Rattle.script_types.specs.declared.script.ScriptData.{ScriptData}
-use Rattle.trace_text.specs.Report.{entry_line_of, output_lines, event_lines, lines_from, entry_lines}
-use Rattle.report_lines.specs.Fits.{FitsWho, FitsOutcome, FitsEntryLine, FitsLine}
+use Rattle.trace_text.specs.Report.{call_line_of, entry_line_of, output_lines, event_lines, lines_from, entry_lines}
+use Rattle.report_lines.specs.Fits.{FitsOutcome, FitsEntryLine, FitsLine}
 use Rattle.history_laws.specs.{Answers.answer_where, Numbers.AreItemsUpTo, Numbers.IsUpTo, NumberLaws.step_up, Outputs.HoldsOwn}
 use Rattle.history_laws.specs.OutputLaws.{all_append, IsOwn, IsOwnGiven, Own, step_own}
-use Rattle.codec_accounts.specs.Calls.{who_of}
 use Rattle.run_ranges.proofs.{Cases.by_option, Cases.comes_after, CodeRanges.CodesAreBytes}
 use Rattle.run_ranges.proofs.UnitRanges.{IsUnitWithin, are_given, judge}
 
@@ -29,12 +28,12 @@ abbrev pub IsOutcomeWithin : Outcome → Type 0
 IsOutcomeWithin (Outcome.NoSlot n) = n < 2 ^ 64
 IsOutcomeWithin o = Unit {0}
 
--- the caller, unit, moment and refusal of an entry are within their types, where it has one
+-- a call's line fits, whatever its exception; the moment and the refusal of another entry are within their types
 abbrev pub IsEntryWithin : ScriptData → Entry → Type 0
-IsEntryWithin s (Entry.Take who unit) = FitsWho s who × (unit < 2 ^ 64)
+IsEntryWithin s (Entry.Call who x) = (o : Option DomError) → FitsEntryLine s (call_line_of who x o)
 IsEntryWithin s (Entry.Done epoch item moment o) = (moment < 2 ^ 64) × IsOutcomeWithin o
 IsEntryWithin s (Entry.Reclaim moment) = moment < 2 ^ 64
-IsEntryWithin s e = elim (who_of e) [ None ↦ Unit {0} | Some who ↦ FitsWho s who ]
+IsEntryWithin s e = Unit {0}
 
 -- ---- starts and ends
 
@@ -57,12 +56,10 @@ IsLineWithin laws script n e s t = IsUpTo n s.control → IsOwnGiven (judge laws
 -- an entry tells what it was given, or numbers of the state
 each_fits : (laws : CodesAreBytes) (script : ScriptData) (n : ℕ) → EachStep (IsLineWithin laws script n)
 each_fits laws script n = record {
-  call = λ who x s. by_call (λ e. IsLineWithin laws script n e s s) who (λ config h given few own. own) (λ chunk h given few own. own) (λ h given few own. own) x;
-  gone = λ who s h given few own. own;
-  kept = λ who s off h given few own. own;
-  cloned = λ who x s on h given few own. own;
-  remove = λ who r s. elim r as (λ y. IsLineWithin laws script n (removal_entry who y) s s) [ Removal.Reset ↦ λ h given few own. own | _ ↦ λ h given few own. own ];
-  take = λ who unit s may h given few own. own;
+  refused = λ who x error s may e h given few own. own _;
+  sent = λ who x w s m may e h given few own. own _;
+  removes_all = λ who x s is e h given few own. own _;
+  takes = λ who unit s may h given few own. own None;
   start = λ i is epoch number s first may h given few own. (
       let last = and_parts (may_start s.control && eqb epoch s.control.epoch) (eqb number i.number) may in
       let items : AreItemsUpTo n (i ∷ is) = subst (AreItemsUpTo n) first h.queued in
@@ -98,17 +95,20 @@ outputs_within : (n : ℕ) (us : List media.Unit) → ArePromises (outputs_from 
 outputs_within n [] = tt
 outputs_within n (u ∷ us) = (tt, outputs_within (n + 1) us)
 
-refused_within : (o : Option DomError) → ArePromises (refusal o)
-refused_within None = tt
-refused_within (Some error) = (tt, tt)
+refused_within : (promise : Option ℕ) (error : DomError) → IfSome promise (λ p. p < 2 ^ 64) → ArePromises (refused_shows promise error)
+refused_within None error few = (tt, tt)
+refused_within (Some promise) error few = (few, tt)
 
-rejection_within : (place : ℕ) (o : Option DomError) → place < 2 ^ 64 → ArePromises (rejection place o)
-rejection_within place None few = tt
-rejection_within place (Some error) few = (few, tt)
+-- a flush's promise is named by its place
+promise_within : (x : Call) (place : ℕ) → place < 2 ^ 64 → IfSome (promise_of x place) (λ p. p < 2 ^ 64)
+promise_within Call.Flush place few = few
+promise_within x place few = tt
 
-removal_within : (n : ℕ) (o : Option DomError) (ps : List ℕ) → n < 2 ^ 64 → AllByRecursion (λ p. p < n) ps → ArePromises (removal_shows o ps)
-removal_within n None ps few h = rejected_within n DomError.Abort ps few h
-removal_within n (Some error) ps few h = (tt, tt)
+called_within : (x : Call) (place : ℕ) (ps : List ℕ) (o : Option DomError) → place < 2 ^ 64 → AllByRecursion (λ p. p < place) ps → ArePromises (call_shows x place ps o)
+called_within x place ps (Some error) few h = refused_within (promise_of x place) error (promise_within x place few)
+called_within Call.Reset place ps None few h = rejected_within place DomError.Abort ps few h
+called_within Call.Close place ps None few h = rejected_within place DomError.Abort ps few h
+called_within x place ps None few h = tt
 
 turned_within : (ts : List Task) (c : Control) → c.tasks ≡ ts → c.place < 2 ^ 64 → NamesEarlier c → ArePromises (turn_shows ts c)
 turned_within (Task.Output units ∷ ts) c is few h = outputs_within c.shown (carried c.active units)
@@ -120,7 +120,8 @@ turned_within _ c is few h = tt
 
 shown_promises : (e : Entry) (s : State) → s.control.place < 2 ^ 64 → NamesEarlier s.control → AllByRecursion (λ p. p < s.control.place) s.control.pending → ArePromises (shows e s)
 shown_promises Entry.Turn s few names below = turned_within s.control.tasks s.control refl few names
-shown_promises e s few names below = search (refused_within, rejection_within, removal_within, closed_within)
+shown_promises (Entry.Call who x) s few names below = called_within x s.control.place s.control.pending (call_error x s.control) few below
+shown_promises e s few names below = search closed_within
 
 -- a unit, and the config that stands behind a chunk
 output_fits : (script : ScriptData) (u : media.Unit) → IsUnitWithin u → AllByRecursion (FitsLine script) (output_lines u)

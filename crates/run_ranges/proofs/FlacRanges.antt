@@ -1,5 +1,5 @@
 -- The samples of a FLAC frame are within their types.
-use Rattle.std.proofs.Common.{ℕ, ℤ, ◌≡◌, ◌<◌, ◌+◌, ◌^◌, not, Bool, true, false, cond, List, Option, Some, None, Result, Ok, Err, subst, arith, lit<}
+use Rattle.std.proofs.Common.{ℕ, ℤ, ◌≡◌, ◌<◌, ◌+◌, ◌^◌, ◌&&◌, not, Bool, true, false, cond, List, Option, Some, None, Result, Ok, Err, subst, arith, lit<}
 use Rattle.std.specs.Prelude.{◌==◌}
 use Rattle.std.proofs.lemmas.Bool.{cond_both}
 use Rattle.wc_base.specs.Options.{cond_is, some_same}
@@ -8,7 +8,7 @@ use Rattle.flac_definitions.specs.declared.{fault.HeaderFault.HeaderFault, fault
 use Rattle.flac_definitions.specs.Bits.{Place, number_at, start_of}
 use Rattle.flac_definitions.specs.{Results.or_fault, Results.without_fault, GrammarLaws.number, Subframe.channels_at}
 use Rattle.flac_definitions.specs.Results as result
-use Rattle.flac_definitions.specs.Header.{field_at, tested_at, is_long_block_size, common_block_size, block_size_at, codes_at, coded_number_at, sample_rate_at, header_sum_at, channels_of, depth_of, header_at}
+use Rattle.flac_definitions.specs.Header.{field_at, tested_at, is_long_block_size, common_block_size, block_size_at, codes_at, coded_number_at, sample_rate_at, header_sum_at, channels_of, depth_of, is_stream_depth, header_at}
 use Rattle.flac_definitions.specs.Frame.{footer_at, frame_at, if_all_bytes, frame_of}
 use Rattle.history_laws.specs.WholeLaws.{bind_some, bind_ok, fault_none, given_header}
 
@@ -66,7 +66,7 @@ header_small info p h is =
     let rate = bind_ok (sample_rate_at info.rate codes.0.0.rate block.0.1) _ h block.2 in
     let sum = bind_ok (header_sum_at p.at rate.0.1) _ h rate.2 in
     let made : FrameHeader × Place = (record { block = block.0.0; rate = rate.0.0; assignment = codes.0.0.assignment; depth = depth_of info.depth codes.0.0.depth; number = number.0.0 }, sum.0.1) in
-    let same = third (not (made.0.rate == info.rate)) (not (channels_of made.0.assignment == info.channels)) (not (made.0.depth == info.depth)) (HeaderFault.Differs HeaderField.Rate) (HeaderFault.Differs HeaderField.Channels) (HeaderFault.Differs HeaderField.Depth) made h sum.2 in
+    let same = third (not (made.0.rate == info.rate)) (not (channels_of made.0.assignment == info.channels)) (not (is_stream_depth info.depth && (made.0.depth == info.depth))) (HeaderFault.Differs HeaderField.Rate) (HeaderFault.Differs HeaderField.Channels) (HeaderFault.Differs HeaderField.Depth) made h sum.2 in
     subst (λ (z : FrameHeader × Place). z.0.block < 2 ^ 32) {x = made} same (block_small codes.0.0.block number.0.1 block.0 block.1)
 
 frame_small : (info : StreamInfo) (p : Place) (g : (FrameHeader × List ℤ) × Place) → frame_at info p ≡ Some g → g.0.0.block < 2 ^ 32

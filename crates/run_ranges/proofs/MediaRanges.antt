@@ -22,7 +22,7 @@ use Rattle.report_text.specs.declared.result.StepResult.{StepResult}
 use Rattle.media_variables.specs.CameLaws.{EachCame, by_came}
 use Rattle.media_variables.specs.Variables.{Reference, Shape, SoundOf, PictureOf, ChunkOf, Medium, Came, Taken, Brought, medium_at, with_medium, detached, zeros, media_ref, sound_of, frame_of, copy_options, rect_of, layouts_in, copy_chunk, copy_medium, size_of_medium, chunk_in_medium, chunk_of_variable, chunk_medium, sound_in, sound_at, unit_came, media_came}
 use Rattle.media_accounts.specs.Accounts.{step_by, before_step, media_of, variables_by, variables_in, came_in}
-use Rattle.trace_text.specs.Fits.{IsMediaAnswer}
+use Rattle.trace_text.specs.Fits.{IsOwnAnswer}
 use Rattle.report_lines.specs.Fits.{FitsResult}
 use Rattle.run_ranges.specs.Ranges.{IsChunkWithin, IsShapeWithin}
 use Rattle.run_ranges.proofs.{Cases.by_option, UnitRanges.IsUnitWithin}
@@ -206,6 +206,6 @@ came_answers s steps brought pool c j given =
     (λ x is. media_answers s (before_step c j pool) (step_by c j) (brought c j x) x vs (given.copied c j x) (given.outputs c j x) (given.told c j x) (given.sizes c j x (media_is (slice_get (steps c) j) x is)) (variables_within s steps brought pool c j given))
 
 -- the answer of a step on media
-pub media_fits : (s : ScriptData) (o : Option Came) (r : StepResult) → IsAnswerWithin s o → IsMediaAnswer o r → FitsResult s r
+pub media_fits : (s : ScriptData) (o : Option Came) (r : StepResult) → IsAnswerWithin s o → IsOwnAnswer o r → FitsResult s r
 media_fits s None r within is = absurd is
 media_fits s (Some y) r within is = subst (FitsResult s) (sym is) within

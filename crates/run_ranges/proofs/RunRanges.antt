@@ -1,5 +1,5 @@
 -- The lines of a legal run that fits its script are within their types, and name callers and codecs that are there.
-use Rattle.std.proofs.Common.{◌≡◌, ℕ, zero, suc, ◌+◌, ◌*◌, ◌<◌, ◌≤◌, ◌^◌, ◌&&◌, Bool, true, List, [], ◌∷◌, length, map, take, Option, Some, refl, ap, sym, subst, ◌∙◌, arith}
+use Rattle.std.proofs.Common.{◌≡◌, ℕ, zero, suc, ◌+◌, ◌*◌, ◌<◌, ◌≤◌, ◌^◌, ◌&&◌, true, List, [], ◌∷◌, length, map, take, Option, Some, None, refl, ap, sym, subst, ◌∙◌, arith}
 use Rattle.std.specs.Prelude.{nat_le, option_map, option_and_then, unwrap_or}
 use Rattle.std.specs.List.{AllByRecursion, zip, slice_get, sum_by}
 use Rattle.std.proofs.Math.Nat.{mul-le-mul}
@@ -7,17 +7,17 @@ use Rattle.std.proofs.lemmas.Bool.{and_parts, leb-true}
 use Rattle.std.proofs.lemmas.List.{length-map, length-take}
 use Rattle.std.proofs.lemmas.Option.{option_and_then_some, slice_get_within}
 use Rattle.wc_base.specs.{Options.some_same, declared.error.DomError.DomError, declared.who.Who.Who, declared.who.By.By}
-use Rattle.wc_config.specs.declared.{kind.Kind.Kind, codec.CoderId.CoderId}
+use Rattle.wc_config.specs.declared.codec.CoderId.{CoderId}
 use Rattle.wc_chunk.specs.declared.chunk.Chunk.{Chunk}
 use Rattle.wc_pool.specs.Laws.{LiveAreNumbered}
 use Rattle.coder_api.specs.declared.slot.{SlotEntry.SlotEntry, SlotOp.SlotOp}
-use Rattle.codec_model.specs.declared.entry.{Opening.Opening, Entry.Entry, Outcome.Outcome, Shown.Shown}
+use Rattle.codec_model.specs.declared.entry.{Opening.Opening, Call.Call, Entry.Entry, Outcome.Outcome, Shown.Shown}
 use Rattle.codec_model.specs.Replay.{State, opening_state, step as legal_step, replay, replay_from}
 use Rattle.codec_model.specs.{Held.HeldStays, Facts.IsNeverStuck, Facts.Always}
 use Rattle.script_types.specs.declared.{script.ScriptData.ScriptData, script.CodecItem.CodecItem, steps.MediaStep.MediaStep, steps.Step.Step}
-use Rattle.script_types.specs.Names.{is_name}
-use Rattle.script_types.specs.Sound.{is_sound, any_kind, gives, is_free, is_codec, is_sound_order, most_order, most_codecs, most_callers, most_steps}
-use Rattle.script_types.specs.SoundLaws.{parts_of, codec_at, step_at, codec_within, few_steps}
+use Rattle.script_types.specs.Names.{is_name, names_codec, called, taken_from}
+use Rattle.script_types.specs.Sound.{is_sound, is_sound_order, most_order, most_codecs, most_callers, most_steps}
+use Rattle.script_types.specs.SoundLaws.{parts_of, codec_at, step_at, named_within, taken_is_named, few_steps}
 use Rattle.report_text.specs.declared.{result.StepResult.StepResult, line.Line.Line}
 use Rattle.trace_text.specs.declared.run.{CallerTrace.CallerTrace, CodecTrace.CodecTrace, Run.Run}
 use Rattle.trace_text.specs.Report.{lines_from, result_lines, caller_lines, entry_lines, codec_lines, pool_lines, slot_lines, lines_of}
@@ -25,8 +25,8 @@ use Rattle.media_variables.specs.Variables.{Medium, Came, chunk_in}
 use Rattle.media_accounts.specs.Accounts.{called_at, lent_at}
 use Rattle.trace_text.specs.Follow.{Recorded, opening_at, output_at, steps_of, chunk_at, order_items}
 use Rattle.trace_text.specs.FitsLaws.{look_of, calls_by_places, order_by_places}
-use Rattle.trace_text.specs.Fits.{recorded_of, mark_of, result_in, entry_in, step_in, CallsAreIn, LookShows, LooksAreIn, IsLocalAnswer, LocalsAreIn, IsResultOf, taken_by, variables_at, came_at, brought_to, made_steps, lends_in, Fits, IsLegalTrace, AreLegalTraces, IsLegalRun}
-use Rattle.codec_accounts.specs.{ListLaws.get_some, Owed.at, Calls.who_of, Codec.state_after, Registry.BoxesAccounted, Registry.EndSays}
+use Rattle.trace_text.specs.Fits.{recorded_of, mark_of, result_in, entry_in, step_in, CallsAreIn, LookShows, LooksAreIn, IsMediaAnswer, IsLocalAnswer, LocalsAreIn, IsResultBy, IsResultOf, taken_by, variables_at, came_at, brought_to, made_steps, lends_in, Fits, IsLegalTrace, AreLegalTraces, IsLegalRun}
+use Rattle.codec_accounts.specs.{ListLaws.get_some, Owed.at, Codec.state_after, Registry.BoxesAccounted, Registry.EndSays}
 use Rattle.codec_accounts.specs.Calls as mark
 use Rattle.codec_accounts.specs.SlotPlaces.{IsOfCodec, cause_there}
 use Rattle.report_lines.specs.Fits.{IsCodec, FitsWho, FitsResult, FitsBy, FitsOp, FitsLine}
@@ -34,7 +34,7 @@ use Rattle.history_laws.specs.{Outputs.HoldsOwn, Numbers.IsUpTo, NumberLaws.step
 use Rattle.history_laws.specs.OutputLaws.{all_append, opening_own, outputs_are}
 use Rattle.run_ranges.specs.Counts.{traces_count, caller_of_step, all_from}
 use Rattle.run_ranges.specs.Ranges.{AreWithin}
-use Rattle.run_ranges.proofs.{Cases.by_option, Cases.by_default, CodeRanges.CodesAreBytes, UnitRanges.judge, TakenRanges.takes_small}
+use Rattle.run_ranges.proofs.{Cases.by_option, Cases.by_default, CodeRanges.CodesAreBytes, UnitRanges.judge, TakenRanges.IsTakeUpTo, TakenRanges.takes_small, TakenRanges.call_fits}
 use Rattle.run_ranges.proofs.PoolRanges.{held_up_to, ops_fit, IsMadeBy, entry_made}
 use Rattle.run_ranges.proofs.MediaRanges.{IsChunkThere, IsOutputWithin, IsAnswerWithin, FitsTaken, size_small_of, AreSteps, came_answers, media_fits}
 use Rattle.run_ranges.proofs.EntryRanges.{IsOutcomeWithin, IsEntryWithin, lines_within}
@@ -56,7 +56,7 @@ pub record IsKnown (s : ScriptData) (made : List CoderId) (w : Recorded) : Type 
   codecs : length w.codecs ≡ length s.codecs
   few_callers : length s.callers ≤ most_callers
   few_codecs : length s.codecs ≤ most_codecs
-  takes : (k p : ℕ) (who : Who) (unit : ℕ) → entry_in w k p ≡ Some (Entry.Take who unit) → unit ≤ p
+  takes : (k p : ℕ) (who : Who) (x : Call) → entry_in w k p ≡ Some (Entry.Call who x) → IsTakeUpTo p x
   recorded : IsRecordedUpTo (length made) w
   open recorded use *
 
@@ -95,13 +95,16 @@ replay_up (e ∷ es) s t n r up = option_and_then_some (replay_from es) (legal_s
 size_small : (o : Opening) (h : List Entry) → (state_after o h).control.size ≤ length h
 size_small o h = by_default (λ t. t.control.size ≤ length h) (replay o h) (opening_state o) (omega arith) (λ t is. omega (arith, (replay_up h (opening_state o) t 0 is (opening_up o)).size))
 
--- copies and sizes are answers of steps on media alone
+-- copies and sizes are answers of steps on media that name no codec
+media_answer_fits : (s : ScriptData) (w : Recorded) (vs : List (Option Medium)) (came : Option Came) (who : Who) (m : MediaStep) (r : StepResult) (taken calls : Option ℕ) → mark_of r ≡ mark.Local → IsAnswerWithin s came → IsResultBy s w who taken calls r → IsMediaAnswer vs came taken calls m r → FitsResult s r
+media_answer_fits s w vs came who m r None None local within of h = media_fits s came r within h
+media_answer_fits s w vs came who m StepResult.Absent taken calls local within of h = tt
+media_answer_fits s w vs came who m r taken calls local within of h = grind arith
+
 local_fits : (s : ScriptData) (media : List (List Chunk)) (w : Recorded) (vs : List (Option Medium)) (came : Option Came) (who : Who) (x : Step) (r : StepResult) → mark_of r ≡ mark.Local → IsAnswerWithin s came → IsResultOf s w who x r → IsLocalAnswer s media vs came who.caller x r → FitsResult s r
+local_fits s media w vs came who (Step.Media m) r local within of h = media_answer_fits s w vs came who m r (taken_from (Step.Media m)) (called (Step.Media m)) local within of h
 local_fits s media w vs came who x (StepResult.Local error) local within of h = tt
 local_fits s media w vs came who x StepResult.Absent local within of h = tt
-local_fits s media w vs came who (Step.Media (MediaStep.Take on bind kind)) r local within of h = grind arith
-local_fits s media w vs came who (Step.Media (MediaStep.Encode on content)) r local within of h = grind arith
-local_fits s media w vs came who (Step.Media m) r local within of h = media_fits s came r within h
 local_fits s media w vs came who x r local within of h = grind arith
 
 op_fits : (most : ℕ) (op : SlotOp) → most < 2 ^ 64 → IsOpUpTo most op → FitsOp op
@@ -134,32 +137,31 @@ module _ (laws : CodesAreBytes) (s : ScriptData) (media : List (List Chunk)) (ma
 
   -- ---- results
 
-  call_fits : (c j k p : ℕ) (error : Option DomError) → result_in w c j ≡ Some (StepResult.Call k p error) → IsCodec s k × (p < 2 ^ 64)
-  call_fits c j k p error is = let kept = (calls_by_places s w calls).kept c j k p error is in entry_known k p kept.entry kept.stands
+  call_known : (c j k p : ℕ) (error : Option DomError) → result_in w c j ≡ Some (StepResult.Call k p error) → IsCodec s k × (p < 2 ^ 64)
+  call_known c j k p error is = let kept = (calls_by_places s w calls).kept c j k p error is in entry_known k p _ kept.stands
 
   take_fits : (c j k p unit : ℕ) → result_in w c j ≡ Some (StepResult.Unit k p unit) → FitsResult s (StepResult.Unit k p unit)
   take_fits c j k p unit is =
       let stands = (calls_by_places s w calls).taken c j k p unit is in
       let known = entry_known k p _ stands in
-      (known.0, known.1, omega (arith, known.1, h.takes k p _ unit stands))
+      let up : unit ≤ p = h.takes k p _ _ stands in
+      (known.0, known.1, omega (arith, known.1, up))
 
   -- a codec that a step names
-  codec_named : (kind : Kind → Bool) (on k : ℕ) → is_codec s.codecs kind on ≡ true → on ≡ k → IsCodec s k
-  codec_named kind on k fine same = let there = codec_within s.codecs kind on fine in (omega (arith, same, there), omega (arith, same, there, h.few_codecs))
+  codec_named : (c j k : ℕ) (x : Step) → step_in s c j ≡ Some x → names_codec x ≡ Some k → IsCodec s k
+  codec_named c j k x is names =
+      let caller = caller_of_step s.callers c j x is in
+      let there = named_within s.codecs (take j caller.0.steps) x k (step_at s c j caller.0 x sound caller.1 caller.2) names in
+      (there, omega (arith, there, h.few_codecs))
 
   -- a look, by the step that looks
   look_fits : (c j l m : ℕ) (x : Step) (r : StepResult) → step_in s c j ≡ Some x
       → mark_of r ≡ mark.Look l m → ((k n : ℕ) → look_of r ≡ Some (k, n) → n ≤ length (at k w.codecs)) → LookShows s w c x r → FitsResult s r
-  look_fits c j l m (Step.Await promise) (StepResult.Look k n end) is looks seen shows = ((call_fits c promise.step k shows.0 shows.1 shows.2).0, omega (arith, seen k n refl, h.entries k))
-  look_fits c j l m (Step.Poll promise) (StepResult.Look k n end) is looks seen shows = ((call_fits c promise.step k shows.0 shows.1 shows.2).0, omega (arith, seen k n refl, h.entries k))
+  look_fits c j l m (Step.Await promise) (StepResult.Look k n end) is looks seen shows = ((call_known c promise.step k shows.0 shows.1 shows.2).0, omega (arith, seen k n refl, h.entries k))
+  look_fits c j l m (Step.Poll promise) (StepResult.Look k n end) is looks seen shows = ((call_known c promise.step k shows.0 shows.1 shows.2).0, omega (arith, seen k n refl, h.entries k))
   look_fits c j l m (Step.State on) (StepResult.State k n state size) is looks seen shows =
-      let caller = caller_of_step s.callers c j (Step.State on) is in
-      (codec_named any_kind on k (step_at s c j caller.0 (Step.State on) sound caller.1 caller.2) shows.0, omega (arith, seen k n refl, h.entries k), omega (arith, shows.2, size_small (opening_at s k) (take n (at k w.codecs)), length-take n (at k w.codecs), h.entries k))
-  look_fits c j l m (Step.Media (MediaStep.Take on bind kind)) (StepResult.NoUnit k n) is looks seen shows =
-      let x = Step.Media (MediaStep.Take on bind kind) in
-      let caller = caller_of_step s.callers c j x is in
-      let fine = step_at s c j caller.0 x sound caller.1 caller.2 in
-      (codec_named (gives kind) on k (and_parts (is_codec s.codecs (gives kind) on) (is_free (take j caller.0.steps) bind) fine).0 shows.0, omega (arith, seen k n refl, h.entries k))
+      (codec_named c j k (Step.State on) is (ap (λ (i : ℕ). Some i) shows.0), omega (arith, seen k n refl, h.entries k), omega (arith, shows.2, size_small (opening_at s k) (take n (at k w.codecs)), length-take n (at k w.codecs), h.entries k))
+  look_fits c j l m x (StepResult.NoUnit k n) is looks seen shows = (codec_named c j k x is (taken_is_named x k shows.0), omega (arith, seen k n refl, h.entries k))
   look_fits c j l m x r is looks seen shows = grind arith
 
   -- what a caller's step took
@@ -180,7 +182,7 @@ module _ (laws : CodesAreBytes) (s : ScriptData) (media : List (List Chunk)) (ma
   }
 
   results_fit : LooksAreIn s w → LocalsAreIn s media w → (c j : ℕ) (r : StepResult) → result_in w c j ≡ Some r → FitsResult s r
-  results_fit looks locals c j (StepResult.Call k p error) is = call_fits c j k p error is
+  results_fit looks locals c j (StepResult.Call k p error) is = call_known c j k p error is
   results_fit looks locals c j (StepResult.Unit k p n) is = take_fits c j k p n is
   results_fit looks locals c j r is =
       let step = calls.made c j r is in
@@ -196,17 +198,14 @@ module _ (laws : CodesAreBytes) (s : ScriptData) (media : List (List Chunk)) (ma
   outcome_within cause (Outcome.NoSlot n) says = omega (arith, slice_get_within w.slots n _ says.stands, h.slots)
   outcome_within cause _ says = tt
 
-  named_within : (k p : ℕ) (e : Entry) (who : Who) → entry_in w k p ≡ Some e → who_of e ≡ Some who → FitsWho s who
-  named_within k p e who is names =
-      let kept = (calls_by_places s w calls).only k p e who is names in step_known who kept.0 kept.1
+  caller_known : (k p : ℕ) (who : Who) (x : Call) → entry_in w k p ≡ Some (Entry.Call who x) → FitsWho s who
+  caller_known k p who x is = let kept = (calls_by_places s w calls).only k p who x is in step_known who kept.0 kept.1
 
   entry_within : BoxesAccounted made (opening_at s) w.codecs w.slots → (k p : ℕ) (e : Entry) → entry_in w k p ≡ Some e → IsEntryWithin s e
-  entry_within boxes k p (Entry.Take who unit) is = (named_within k p (Entry.Take who unit) who is refl, omega (arith, h.takes k p who unit is, (entry_known k p _ is).1))
+  entry_within boxes k p (Entry.Call who x) is = λ o. call_fits s who x o p (caller_known k p who x is) (h.takes k p who x is) (entry_known k p _ is).1
   entry_within boxes k p (Entry.Done epoch item moment o) is = (h.own k p (Entry.Done epoch item moment o) is, outcome_within _ o (boxes.ends k p epoch item moment o is).says)
   entry_within boxes k p (Entry.Reclaim moment) is = h.own k p (Entry.Reclaim moment) is
-  entry_within boxes k p (Entry.Start epoch item) is = tt
-  entry_within boxes k p Entry.Turn is = tt
-  entry_within boxes k p e is = named_within k p e _ is refl
+  entry_within boxes k p e is = tt
 
   -- ---- the registry
 

@@ -4,6 +4,8 @@ use Rattle.wc_base.specs.declared.error.DomError.{DomError}
 use Rattle.wc_base.specs.declared.who.Who.{Who}
 use Rattle.wc_config.specs.declared.codec.CoderId.{CoderId}
 use Rattle.codec_model.specs.declared.entry.Opening.{Opening}
+use Rattle.codec_model.specs.declared.entry.Call.{Call}
+use Rattle.codec_model.specs.declared.entry.Call.TheVariants as call
 use Rattle.codec_model.specs.declared.entry.Entry.{Entry}
 use Rattle.codec_model.specs.declared.entry.Entry.TheVariants as entry
 use Rattle.codec_model.specs.Replay.{IsLegal}
@@ -24,14 +26,14 @@ use Rattle.trace_text.specs.Report.{refusal_in}
 use Rattle.codec_accounts.specs.Owed.{at}
 use Rattle.codec_accounts.specs.Registry.{BoxesAccounted}
 use Rattle.codec_accounts.specs.Codec.{state_after}
-use Rattle.codec_accounts.specs.Calls.{who_of, Mark, Climbs}
+use Rattle.codec_accounts.specs.Calls.{Mark, Climbs}
 use Rattle.codec_accounts.specs.Calls as mark
 use Rattle.wc_pool.specs.Bag.{held_in}
 use Rattle.wc_pool.specs.declared.entry.PoolOp.{PoolOp}
 use Rattle.wc_audio.specs.Sound.{Sound}
 use Rattle.media_variables.specs.Variables.{Medium, Came, Taken, Brought, sound_at, handed_of}
 use Rattle.media_accounts.specs.Accounts.{came_in, variables_in, lent_at, MediaAreIn}
-use Rattle.trace_text.specs.Follow.{Recorded, Course, record_of, opening_of, opening_at, steps_of, chunk_for, copied_chunk, output_at, source_error, promise_after, order_items, Follows, nothing_yet}
+use Rattle.trace_text.specs.Follow.{Recorded, Course, record_of, opening_of, opening_at, steps_of, chunk_for, copied_chunk, output_at, source_error, promise_after, take_entry, order_items, Follows, nothing_yet}
 
 -- what a run recorded, without what its entries showed
 abbrev pub recorded_of : Run → Recorded
@@ -87,7 +89,7 @@ IsAnswerOf s w None r = Unit {0}
 
 -- the result of a step that takes an output of a codec: its entry there, of the output with this number; or that there was none
 abbrev pub IsTakeResult : Recorded → Who → ℕ → StepResult → Type 0
-IsTakeResult w who k (result.Unit other p n) = (other ≡ k) × (entry_in w k p ≡ Some (entry.Take who n))
+IsTakeResult w who k (result.Unit other p n) = (other ≡ k) × (entry_in w k p ≡ Some (take_entry who n))
 IsTakeResult w who k (result.NoUnit other n) = other ≡ k
 IsTakeResult w who k _ = ⊥
 
@@ -118,11 +120,10 @@ LookShows s w c (step.Poll promise) (result.Look k n end) =
     (p : ℕ) × (error : Option DomError) × (result_in w c promise.step ≡ Some (result.Call k p error)) × (end ≡ promise_after (opening_at s k) (take n (at k w.codecs)) p)
 LookShows s w c (step.State on) (result.State k n state size) =
     (on ≡ k) × (state ≡ (state_after (opening_at s k) (take n (at k w.codecs))).control.phase) × (size ≡ (state_after (opening_at s k) (take n (at k w.codecs))).control.size)
-LookShows s w c (step.Media (on_media.Take on bind kind)) (result.NoUnit k n) =
-    let h = take n (at k w.codecs) in (on ≡ k) × (output_at (opening_at s k) h (state_after (opening_at s k) h).control.taken ≡ None)
 LookShows s w c x (result.Look k n end) = ⊥
 LookShows s w c x (result.State k n state size) = ⊥
-LookShows s w c x (result.NoUnit k n) = ⊥
+LookShows s w c x (result.NoUnit k n) =
+    let h = take n (at k w.codecs) in (taken_from x ≡ Some k) × (output_at (opening_at s k) h (state_after (opening_at s k) h).control.taken ≡ None)
 LookShows s w c x r = Unit {0}
 
 -- what each caller's results say of a codec rises with its steps, up to the length of the codec's history
@@ -153,25 +154,25 @@ brought_to s media w c j x = record { chunk = copied_chunk media (steps_of s c) 
 abbrev pub variables_at : ScriptData → List (List Chunk) → Recorded → ℕ → ℕ → List (Option Medium)
 variables_at s media w c j = variables_in (steps_of s) (brought_to s media w) w.pool c j
 
--- An entry has what its step gives, where its caller's variables hold this. Of an encode the variable says the samples and the
+-- A call has what its step gives, where its caller's variables hold this. Of an encode the variable says the samples and the
 -- resource; the number of the clone the pool's history says, and whether it is accepted the codec's. Of a take the codec's
 -- history says which output it takes.
-abbrev pub HasArguments : ScriptData → List (List Chunk) → List (Option Medium) → Who → Entry → Step → Type 0
-HasArguments s media vs who e (step.Configure on config) = e ≡ entry.Configure who config
-HasArguments s media vs who e (step.Decode on chunk) = (value : Chunk) × (chunk_for media (steps_of s who.caller) vs chunk.step ≡ Some value) × (e ≡ entry.Decode who value)
-HasArguments s media vs who e (step.Flush on bind) = e ≡ entry.Flush who
-HasArguments s media vs who e (step.Reset on) = e ≡ entry.Reset who
-HasArguments s media vs who e (step.Close on) = e ≡ entry.Close who
-HasArguments s media vs who e (step.Media (on_media.Encode on content)) =
-    (x : Sound) × (number : ℕ) × (accepts : Bool) × (sound_at vs content.step ≡ Some x) × (e ≡ entry.Encode who (handed_of number accepts x))
-HasArguments s media vs who e (step.Media (on_media.Take on bind kind)) = (n : ℕ) × (e ≡ entry.Take who n)
-HasArguments s media vs who e _ = ⊥
+abbrev pub HasArguments : ScriptData → List (List Chunk) → List (Option Medium) → ℕ → Call → Step → Type 0
+HasArguments s media vs c x (step.Configure on config) = x ≡ call.Configure config
+HasArguments s media vs c x (step.Decode on chunk) = (value : Chunk) × (chunk_for media (steps_of s c) vs chunk.step ≡ Some value) × (x ≡ call.Decode value)
+HasArguments s media vs c x (step.Flush on bind) = x ≡ call.Flush
+HasArguments s media vs c x (step.Reset on) = x ≡ call.Reset
+HasArguments s media vs c x (step.Close on) = x ≡ call.Close
+HasArguments s media vs c x (step.Media (on_media.Encode on content)) =
+    (y : Sound) × (number : ℕ) × (accepts : Bool) × (sound_at vs content.step ≡ Some y) × (x ≡ call.Encode (handed_of number accepts y))
+HasArguments s media vs c x (step.Media (on_media.Take on bind kind)) = (n : ℕ) × (x ≡ call.Take n)
+HasArguments s media vs c x _ = ⊥
 
 abbrev pub ArgumentsAreIn : ScriptData → List (List Chunk) → Recorded → Type 0
-ArgumentsAreIn s media w = (k p : ℕ) (e : Entry) (who : Who) → entry_in w k p ≡ Some e → who_of e ≡ Some who →
-    (x : Step) × (step_in s who.caller who.step ≡ Some x) × HasArguments s media (variables_at s media w who.caller who.step) who e x
+ArgumentsAreIn s media w = (k p : ℕ) (who : Who) (x : Call) → entry_in w k p ≡ Some (entry.Call who x) →
+    (y : Step) × (step_in s who.caller who.step ≡ Some y) × HasArguments s media (variables_at s media w who.caller who.step) who.caller x y
 
--- The config, chunk or samples in an entry are what the script, its chunk files and the caller's earlier steps give.
+-- The config, chunk or samples of a call are what the script, its chunk files and the caller's earlier steps give.
 abbrev pub ArgumentsAreTheScripts : ScriptData → List (List Chunk) → Run → Type 0
 ArgumentsAreTheScripts s media run = ArgumentsAreIn s media (recorded_of run)
 
@@ -184,18 +185,26 @@ abbrev pub came_at : ScriptData → List (List Chunk) → Recorded → ℕ → �
 came_at s media w c j = came_in (steps_of s) (brought_to s media w) w.pool c j
 
 -- a step on media that is the callers' own has the answer that it comes to
-abbrev pub IsMediaAnswer : Option Came → StepResult → Type 0
-IsMediaAnswer None r = ⊥
-IsMediaAnswer (Some y) r = r ≡ y.answer
+abbrev pub IsOwnAnswer : Option Came → StepResult → Type 0
+IsOwnAnswer None r = ⊥
+IsOwnAnswer (Some y) r = r ≡ y.answer
+
+-- absent is only an encode whose variable is absent
+abbrev pub IsEncodeAnswer : List (Option Medium) → MediaStep → StepResult → Type 0
+IsEncodeAnswer vs (on_media.Encode on content) result.Absent = sound_at vs content.step ≡ None
+IsEncodeAnswer vs x r = Unit {0}
+
+-- by the codec that a step on media takes an output of, if it takes one, and by the codec that it calls
+abbrev pub IsMediaAnswer : List (Option Medium) → Option Came → Option ℕ → Option ℕ → MediaStep → StepResult → Type 0
+IsMediaAnswer vs came (Some k) calls x r = Unit {0}
+IsMediaAnswer vs came None (Some k) x r = IsEncodeAnswer vs x r
+IsMediaAnswer vs came None None x r = IsOwnAnswer came r
 
 -- The answer of a step that calls no codec and looks at none, where its caller's variables hold this and a step on media comes
 -- to this; absent is only what lacks its variable.
 abbrev pub IsLocalAnswer : ScriptData → List (List Chunk) → List (Option Medium) → Option Came → ℕ → Step → StepResult → Type 0
 IsLocalAnswer s media vs came c (step.Chunk bind source) r = r ≡ result.Local (source_error source)
-IsLocalAnswer s media vs came c (step.Media (on_media.Take on bind kind)) r = Unit {0}
-IsLocalAnswer s media vs came c (step.Media (on_media.Encode on content)) result.Absent = sound_at vs content.step ≡ None
-IsLocalAnswer s media vs came c (step.Media (on_media.Encode on content)) r = Unit {0}
-IsLocalAnswer s media vs came c (step.Media x) r = IsMediaAnswer came r
+IsLocalAnswer s media vs came c (step.Media x) r = IsMediaAnswer vs came (taken_from (step.Media x)) (called (step.Media x)) x r
 IsLocalAnswer s media vs came c (step.Decode on chunk) result.Absent = chunk_for media (steps_of s c) vs chunk.step ≡ None
 IsLocalAnswer s media vs came c x result.Absent = ⊥
 IsLocalAnswer s media vs came c x (result.Local error) = ⊥

@@ -3,6 +3,8 @@ use Rattle.std.proofs.Common.{ℕ, zero, suc, ◌≡◌, ◌≤◌, ◌<◌, Lis
 use Rattle.std.specs.Prelude.{slice_get, option_map}
 use Rattle.wc_base.specs.declared.error.DomError.{DomError}
 use Rattle.wc_base.specs.declared.who.Who.{Who}
+use Rattle.wc_base.specs.Options.{some_same}
+use Rattle.codec_model.specs.declared.entry.Call.{Call}
 use Rattle.codec_model.specs.declared.entry.Entry.{Entry}
 use Rattle.codec_model.specs.declared.entry.Entry.TheVariants as entry
 use Rattle.codec_accounts.specs.Owed.{at}
@@ -13,14 +15,13 @@ use Rattle.script_types.specs.declared.script.ScriptData.{ScriptData}
 use Rattle.script_types.specs.Names.{called, taken_from}
 use Rattle.report_text.specs.declared.result.StepResult.{StepResult}
 use Rattle.report_text.specs.declared.result.StepResult.TheVariants as result
-use Rattle.trace_text.specs.Follow.{Recorded, opening_at}
+use Rattle.trace_text.specs.Follow.{Recorded, opening_at, take_entry}
 use Rattle.trace_text.specs.Fits.{result_in, entry_in, exception_at, mark_of, marks_of, IsResultBy, CallsAreIn, MarksClimb}
 
--- The entry at this place is the call of this step, and shows this exception.
+-- The entry at this place is a call of this step, and shows this exception.
 pub record KeepsCall (s : ScriptData) (w : Recorded) (who : Who) (k p : ℕ) (error : Option DomError) : Type 0 where
-  pub entry : Entry
-  pub stands : entry_in w k p ≡ Some entry
-  pub names : who_of entry ≡ Some who
+  pub call : Call
+  pub stands : entry_in w k p ≡ Some (entry.Call who call)
   pub shows : error ≡ exception_at (opening_at s k) (at k w.codecs) p
 
 -- the codec of a call or of a take that found an output, and its entry's place, if the result is one
@@ -29,12 +30,12 @@ made_at (result.Call k place error) = Some (k, place)
 made_at (result.Unit k place n) = Some (k, place)
 made_at _ = None
 
--- Calls by their places: the result of a call or a take names its entry, and each entry that names a caller's step is the
--- one in that step's result.
+-- Calls by their places: the result of a call or a take names its entry, and each entry of a call is the one in the result of
+-- its caller's step.
 pub record CallsByPlaces (s : ScriptData) (w : Recorded) : Type 0 where
   pub kept : (c j k p : ℕ) (error : Option DomError) → result_in w c j ≡ Some (result.Call k p error) → KeepsCall s w (record { caller = c; step = j }) k p error
-  pub taken : (c j k p n : ℕ) → result_in w c j ≡ Some (result.Unit k p n) → entry_in w k p ≡ Some (entry.Take (record { caller = c; step = j }) n)
-  pub only : (k p : ℕ) (e : Entry) (who : Who) → entry_in w k p ≡ Some e → who_of e ≡ Some who → (r : StepResult) × (result_in w who.caller who.step ≡ Some r) × (made_at r ≡ Some (k, p))
+  pub taken : (c j k p n : ℕ) → result_in w c j ≡ Some (result.Unit k p n) → entry_in w k p ≡ Some (take_entry (record { caller = c; step = j }) n)
+  pub only : (k p : ℕ) (who : Who) (x : Call) → entry_in w k p ≡ Some (entry.Call who x) → (r : StepResult) × (result_in w who.caller who.step ≡ Some r) × (made_at r ≡ Some (k, p))
 
 -- a look at a codec after this many entries, if the result is one
 abbrev pub look_of : StepResult → Option (ℕ × ℕ)
@@ -73,13 +74,18 @@ mark_at w c j r is = get_map mark_of (at c w.callers) j ∙ ap (option_map mark_
 
 -- ---- calls
 
+-- only calls name a caller's step
+named_is_call : (e : Entry) (who : Who) → who_of e ≡ Some who → (x : Call) × (e ≡ entry.Call who x)
+named_is_call (entry.Call by x) who names = (x, ap (λ (w : Who). entry.Call w x) (some_same by who names))
+named_is_call e who names = absurd cc
+
 shows_of : (s : ScriptData) (w : Recorded) (who : Who) (t o : Option ℕ) (k p : ℕ) (error : Option DomError) → IsResultBy s w who t o (result.Call k p error) → error ≡ exception_at (opening_at s k) (at k w.codecs) p
 shows_of s w who (Some n) o k p error h = absurd h
 shows_of s w who None None k p error h = absurd h
 shows_of s w who None (Some n) k p error h = subst (λ (m : ℕ). error ≡ exception_at (opening_at s m) (at m w.codecs) p) (sym h.0) h.1
 
-takes_of : (s : ScriptData) (w : Recorded) (who : Who) (t o : Option ℕ) (k p n : ℕ) → IsResultBy s w who t o (result.Unit k p n) → entry_in w k p ≡ Some (entry.Take who n)
-takes_of s w who (Some m) o k p n h = subst (λ (i : ℕ). entry_in w i p ≡ Some (entry.Take who n)) (sym h.0) h.1
+takes_of : (s : ScriptData) (w : Recorded) (who : Who) (t o : Option ℕ) (k p n : ℕ) → IsResultBy s w who t o (result.Unit k p n) → entry_in w k p ≡ Some (take_entry who n)
+takes_of s w who (Some m) o k p n h = subst (λ (i : ℕ). entry_in w i p ≡ Some (take_entry who n)) (sym h.0) h.1
 takes_of s w who None None k p n h = absurd h
 takes_of s w who None (Some m) k p n h = absurd h
 
@@ -105,10 +111,11 @@ calls_by_places s w calls = record {
   kept = λ c j k p error is. (
       let made = calls.made c j (result.Call k p error) is in
       let there = call_stands k (at k w.codecs) (marks_of w) c j p (calls.once k) (mark_in w c j ∙ ap (option_map mark_of) is) in
-      record { entry = there.entry; stands = there.stands; names = there.names; shows = shows_of s w (record { caller = c; step = j }) (taken_from made.0) (called made.0) k p error made.2 }
+      let is_call = named_is_call there.entry (record { caller = c; step = j }) there.names in
+      record { call = is_call.0; stands = there.stands ∙ ap (λ (e : Entry). Some e) is_call.1; shows = shows_of s w (record { caller = c; step = j }) (taken_from made.0) (called made.0) k p error made.2 }
       );
   taken = λ c j k p n is. (let made = calls.made c j (result.Unit k p n) is in takes_of s w (record { caller = c; step = j }) (taken_from made.0) (called made.0) k p n made.2);
-  only = λ k p e who is names. call_there (result_in w who.caller who.step) k p (sym (mark_in w who.caller who.step) ∙ names_call k (at k w.codecs) (marks_of w) p e who (calls.once k) is names);
+  only = λ k p who x is. call_there (result_in w who.caller who.step) k p (sym (mark_in w who.caller who.step) ∙ names_call k (at k w.codecs) (marks_of w) p (entry.Call who x) who (calls.once k) is refl);
 }
 
 -- ---- the order

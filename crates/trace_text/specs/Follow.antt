@@ -14,17 +14,13 @@ use Rattle.codec_model.specs.declared.entry.Call.{Call}
 use Rattle.codec_model.specs.declared.entry.Call.TheVariants as call
 use Rattle.codec_model.specs.declared.entry.Outcome.{Outcome}
 use Rattle.codec_model.specs.declared.entry.Outcome.TheVariants as outcome
-use Rattle.codec_model.specs.declared.entry.Removal.{Removal}
-use Rattle.codec_model.specs.declared.entry.Removal.TheVariants as removal
 use Rattle.codec_model.specs.declared.entry.Running.{Running}
 use Rattle.codec_model.specs.declared.entry.PromiseState.{PromiseState}
 use Rattle.codec_model.specs.declared.entry.Task.{Task}
 use Rattle.codec_model.specs.declared.entry.Entry.{Entry}
 use Rattle.codec_model.specs.declared.entry.Entry.TheVariants as entry
-use Rattle.codec_model.specs.declared.entry.Handed.{Handed}
-use Rattle.codec_model.specs.declared.entry.Handed.TheVariants as handed
 use Rattle.codec_model.specs.Control.{no_opening, start_item, may_reclaim}
-use Rattle.codec_model.specs.Replay.{Given, entry_of, removal_entry, call_error, removal_error, answer_to, encode_error, is_configured}
+use Rattle.codec_model.specs.Replay.{Given, call_error, answer_to, is_configured}
 use Rattle.codec_model.specs.Shown.{shown, outputs_of, ends_in, promise_state, exception_of}
 use Rattle.codec_accounts.specs.Owed.{at, append_at}
 use Rattle.codec_accounts.specs.Codec.{CodecValue, new_codec, state_of, codecs_after, slots_by, codec_at, histories}
@@ -135,15 +131,15 @@ source_error (source.File file index) = None
 -- ---- moves
 
 -- What an item of the order, or the step of a caller, makes: nothing; a result of a caller alone, as that of a look; the
--- next entry of a codec; both, where a caller's step calls a codec, with the exception that the call shows; what a step on
--- media comes to; or that beside the next entry of a codec, of which the step takes an output.
+-- next entry of a codec; both, where a caller's step calls a codec; what a step on media comes to; or that beside the next
+-- entry of a codec, of which the step takes the output with this number.
 pub data Move : Type 0 where
   Idle : Move
   Answer : ℕ → StepResult → Move
   Advance : ℕ → Entry → Move
-  Ask : ℕ → ℕ → Entry → Option DomError → Move
+  Ask : Who → ℕ → Call → Move
   Handle : Who → Came → Move
-  Receive : Who → ℕ → Entry → Came → Move
+  Receive : Who → ℕ → ℕ → Came → Move
 
 -- one result more of the caller with this number
 abbrev pub with_result : ℕ → StepResult → Course → Course
@@ -165,13 +161,21 @@ with_entry k e v = record v {
 abbrev pub with_media : Who → Came → Course → Course
 with_media who y v = record v { media = after_came who y v.media }
 
+-- the entry of a take of the output with this number
+abbrev pub take_entry : Who → ℕ → Entry
+take_entry who n = entry.Call who (call.Take n)
+
+-- the result of a call that is the next entry of a codec: its place, and its exception, if it has one
+abbrev pub result_of : ℕ → Call → CodecValue → StepResult
+result_of k x d = result.Call k (length d.history) (exception_of x (call_error x (state_of d).control))
+
 abbrev pub after_move : Move → Course → Course
 after_move Idle v = v
 after_move (Answer c r) v = with_result c r v
 after_move (Advance k e) v = with_entry k e v
-after_move (Ask c k e error) v = with_result c (result.Call k (length (codec_at k v.codecs).history) error) (with_entry k e v)
+after_move (Ask who k x) v = with_result who.caller (result_of k x (codec_at k v.codecs)) (with_entry k (entry.Call who x) v)
 after_move (Handle who y) v = with_result who.caller y.answer (with_media who y v)
-after_move (Receive who k e y) v = with_result who.caller y.answer (with_media who y (with_entry k e v))
+after_move (Receive who k n y) v = with_result who.caller y.answer (with_media who y (with_entry k (take_entry who n) v))
 
 -- ---- the next entry of one codec
 
@@ -222,18 +226,14 @@ advance k (Some e) = Advance k e
 
 -- ---- the steps of callers
 
--- a caller's configure, decode or flush
-abbrev pub call_move : Who → ℕ → Call → CodecValue → Move
-call_move who k x d = Ask who.caller k (entry_of who x) (exception_of x (call_error x (state_of d).control))
+-- a caller's call of a codec, unless the variable is absent that it takes its data from
+abbrev pub call_move : Who → ℕ → Option Call → Move
+call_move who k None = Answer who.caller result.Absent
+call_move who k (Some x) = Ask who k x
 
--- a caller's decode of the chunk that a variable holds, unless it is absent
-abbrev pub decode_move : Who → ℕ → Option Chunk → CodecValue → Move
-decode_move who k None d = Answer who.caller result.Absent
-decode_move who k (Some chunk) d = call_move who k (call.Decode chunk) d
-
--- a caller's reset or close
-abbrev pub removal_move : Who → ℕ → Removal → CodecValue → Move
-removal_move who k r d = Ask who.caller k (removal_entry who r) (removal_error (state_of d).control)
+-- an encode of audio data, of which the codec makes a clone where it is configured; its reference has the next number
+abbrev pub encode_of : List PoolEntry → CodecValue → Sound → Call
+encode_of pool d x = call.Encode (handed_of (references_made pool) (is_configured (state_of d).control) x)
 
 -- what a look shows at the promise of the flush that came to this result
 abbrev pub look_of_flush : List CodecValue → Option StepResult → StepResult
@@ -243,21 +243,6 @@ look_of_flush ds _ = result.Absent
 -- what a look shows of a codec's state and of the number of its queued chunks
 abbrev pub look_of_state : ℕ → CodecValue → StepResult
 look_of_state k d = let c = (state_of d).control in result.State k (length d.history) c.phase c.size
-
--- whether the data was detached
-abbrev pub is_gone : Handed → Bool
-is_gone handed.Gone = true
-is_gone handed.Kept = false
-is_gone (handed.Cloned sound) = false
-
--- an encode of what its caller hands to a codec, with the exception that it shows
-abbrev pub hand_move : Who → ℕ → Handed → CodecValue → Move
-hand_move who k h d = Ask who.caller k (entry.Encode who h) (encode_error (is_gone h) (state_of d).control)
-
--- a caller's encode of the audio data that a variable holds, unless it is absent; a reference that is cloned has the next number
-abbrev pub encode_move : Who → ℕ → List PoolEntry → Option Sound → CodecValue → Move
-encode_move who k pool None d = Answer who.caller result.Absent
-encode_move who k pool (Some x) d = hand_move who k (handed_of (references_made pool) (is_configured (state_of d).control) x) d
 
 -- a step on media that is the callers' own
 abbrev pub handle_move : Who → Option Came → Move
@@ -273,29 +258,29 @@ found_at k d =
 -- a take of a codec, by what it comes to; a look where it found nothing
 abbrev pub take_move : Who → ℕ → CodecValue → Option Came → Move
 take_move who k d None = Answer who.caller (result.NoUnit k (length d.history))
-take_move who k d (Some y) = Receive who k (entry.Take who (state_of d).control.taken) y
+take_move who k d (Some y) = Receive who k (state_of d).control.taken y
 
 abbrev pub media_move : ScriptData → List (List Chunk) → Who → MediaStep → Course → Move
 media_move s media who (on_media.Take on bind kind) v =
     let b : Brought = record { chunk = None; taken = found_at on (codec_at on v.codecs) } in
     take_move who on (codec_at on v.codecs) (media_came v.media.pool who b (on_media.Take on bind kind) (variables_of who.caller v.media.variables))
 media_move s media who (on_media.Encode on content) v =
-    encode_move who on v.media.pool (sound_at (variables_of who.caller v.media.variables) content.step) (codec_at on v.codecs)
+    call_move who on (option_map (encode_of v.media.pool (codec_at on v.codecs)) (sound_at (variables_of who.caller v.media.variables) content.step))
 media_move s media who x v =
     let b : Brought = record { chunk = copied_chunk media (steps_of s who.caller) x; taken = None } in
     handle_move who (media_came v.media.pool who b x (variables_of who.caller v.media.variables))
 
 -- the step of a caller
 abbrev pub step_move : ScriptData → List (List Chunk) → Who → Step → Course → Move
-step_move s media who (step.Configure on config) v = call_move who on (call.Configure config) (codec_at on v.codecs)
+step_move s media who (step.Configure on config) v = Ask who on (call.Configure config)
 step_move s media who (step.Chunk bind source) v = Answer who.caller (result.Local (source_error source))
 step_move s media who (step.Decode on chunk) v =
-    decode_move who on (chunk_for media (steps_of s who.caller) (variables_of who.caller v.media.variables) chunk.step) (codec_at on v.codecs)
-step_move s media who (step.Flush on bind) v = call_move who on call.Flush (codec_at on v.codecs)
+    call_move who on (option_map call.Decode (chunk_for media (steps_of s who.caller) (variables_of who.caller v.media.variables) chunk.step))
+step_move s media who (step.Flush on bind) v = Ask who on call.Flush
 step_move s media who (step.Poll promise) v = Answer who.caller (look_of_flush v.codecs (slice_get (at who.caller v.callers) promise.step))
 step_move s media who (step.Await promise) v = Answer who.caller (look_of_flush v.codecs (slice_get (at who.caller v.callers) promise.step))
-step_move s media who (step.Reset on) v = removal_move who on removal.Reset (codec_at on v.codecs)
-step_move s media who (step.Close on) v = removal_move who on removal.Close (codec_at on v.codecs)
+step_move s media who (step.Reset on) v = Ask who on call.Reset
+step_move s media who (step.Close on) v = Ask who on call.Close
 step_move s media who (step.State on) v = Answer who.caller (look_of_state on (codec_at on v.codecs))
 step_move s media who (step.Media x) v = media_move s media who x v
 

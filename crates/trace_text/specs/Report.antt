@@ -4,6 +4,7 @@
 use Rattle.std.specs.Prelude.{ℕ, ◌+◌, List, [], ◌∷◌, ◌++◌, flat_map, unwrap_or, Option, Some, None}
 use Rattle.std.specs.List.{zip}
 use Rattle.wc_base.specs.declared.error.DomError.{DomError}
+use Rattle.wc_base.specs.declared.who.Who.{Who}
 use Rattle.wc_config.specs.declared.config.AudioDecoderConfig.{AudioDecoderConfig}
 use Rattle.wc_pool.specs.declared.entry.PoolEntry.{PoolEntry}
 use Rattle.coder_api.specs.declared.slot.SlotEntry.{SlotEntry}
@@ -12,11 +13,13 @@ use Rattle.codec_definitions.specs.declared.unit.Unit.TheVariants as unit
 use Rattle.codec_model.specs.declared.entry.Event.{Event}
 use Rattle.codec_model.specs.declared.entry.Event.TheVariants as event
 use Rattle.codec_model.specs.declared.entry.Shown.{Shown}
+use Rattle.codec_model.specs.declared.entry.Call.{Call}
+use Rattle.codec_model.specs.declared.entry.Call.TheVariants as call
 use Rattle.codec_model.specs.declared.entry.Entry.{Entry}
 use Rattle.codec_model.specs.declared.entry.Entry.TheVariants as entry
 use Rattle.script_types.specs.declared.script.ScriptData.{ScriptData}
 use Rattle.report_text.specs.declared.result.StepResult.{StepResult}
-use Rattle.report_text.specs.declared.line.CallWord.TheVariants as call
+use Rattle.report_text.specs.declared.line.CallWord.TheVariants as word
 use Rattle.report_text.specs.declared.line.EntryLine.{EntryLine}
 use Rattle.report_text.specs.declared.line.EntryLine.TheVariants as entry_line
 use Rattle.report_text.specs.declared.line.EventLine.TheVariants as event_line
@@ -73,16 +76,19 @@ abbrev pub refusal_in : List Event → Option DomError
 refusal_in (event.Refusal error ∷ events) = Some error
 refusal_in _ = None
 
--- what stands on an entry's line behind its place: a call with its exception, a take with the output's number, a turn with the
--- task that it ran
+-- what stands on the line of a call: its exception, if it has one, or the number of the output that it takes
+abbrev pub call_line_of : Who → Call → Option DomError → EntryLine
+call_line_of who (call.Configure config) error = entry_line.Call who word.Configure error
+call_line_of who (call.Decode chunk) error = entry_line.Call who word.Decode error
+call_line_of who (call.Encode handed) error = entry_line.Call who word.Encode error
+call_line_of who call.Flush error = entry_line.Call who word.Flush error
+call_line_of who call.Reset error = entry_line.Call who word.Reset error
+call_line_of who call.Close error = entry_line.Call who word.Close error
+call_line_of who (call.Take unit) error = entry_line.Take who unit
+
+-- what stands on an entry's line behind its place; on that of a turn the task that it ran
 abbrev pub entry_line_of : Entry → Shown → EntryLine
-entry_line_of (entry.Configure who config) shown = entry_line.Call who call.Configure (refusal_in shown.events)
-entry_line_of (entry.Decode who chunk) shown = entry_line.Call who call.Decode (refusal_in shown.events)
-entry_line_of (entry.Encode who handed) shown = entry_line.Call who call.Encode (refusal_in shown.events)
-entry_line_of (entry.Flush who) shown = entry_line.Call who call.Flush (refusal_in shown.events)
-entry_line_of (entry.Reset who) shown = entry_line.Call who call.Reset (refusal_in shown.events)
-entry_line_of (entry.Close who) shown = entry_line.Call who call.Close (refusal_in shown.events)
-entry_line_of (entry.Take who unit) shown = entry_line.Take who unit
+entry_line_of (entry.Call who x) shown = call_line_of who x (refusal_in shown.events)
 entry_line_of (entry.Start epoch item) shown = entry_line.Start epoch item
 entry_line_of (entry.Done epoch item moment outcome) shown = entry_line.Done epoch item moment outcome
 entry_line_of entry.Turn shown = entry_line.Turn shown.turn

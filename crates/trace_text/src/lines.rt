@@ -11,7 +11,7 @@ ghost use Rattle.trace_text.specs.Behind.{lines_in, lines_behind};
 use crate::numbered::Numbered;
 use crate::{CallerTrace, CodecTrace, Run};
 use bytes::Bytes;
-use codec_model::{Entry, Event, Shown};
+use codec_model::{Call, Entry, Event, Shown};
 use coder_api::{SlotEntry, Unit};
 use report_text::{CallWord, EntryLine, EventLine, Line, StepResult};
 use std::alloc::Global;
@@ -31,10 +31,19 @@ fn refusal_in(events: &[Event]) -> Option<DomError>
     }
 }
 
-fn call_line(who: Who, call: CallWord, shown: &Shown) -> EntryLine
-    ensures { result ≡ EntryLine.Call who call (spec.refusal_in shown.now.events) }
+// What stands on the line of a call that was refused with this error, or with none.
+fn call_line(who: Who, call: &Call, error: Option<DomError>) -> EntryLine
+    ensures { result ≡ spec.call_line_of who call.now error }
 {
-    let error = refusal_in(shown.events.as_slice());
+    let call = match call {
+        Call::Configure(_) => CallWord::Configure,
+        Call::Decode(_) => CallWord::Decode,
+        Call::Encode(_) => CallWord::Encode,
+        Call::Flush => CallWord::Flush,
+        Call::Reset => CallWord::Reset,
+        Call::Close => CallWord::Close,
+        Call::Take(unit) => return EntryLine::Take { who, unit: *unit },
+    };
     EntryLine::Call { who, call, error }
 }
 
@@ -43,16 +52,7 @@ fn entry_line_of(entry: &Entry, shown: &Shown) -> EntryLine
     ensures { result ≡ spec.entry_line_of entry.now shown.now }
 {
     match entry {
-        Entry::Configure { who, .. } => call_line(*who, CallWord::Configure, shown),
-        Entry::Decode { who, .. } => call_line(*who, CallWord::Decode, shown),
-        Entry::Encode { who, .. } => call_line(*who, CallWord::Encode, shown),
-        Entry::Flush { who } => call_line(*who, CallWord::Flush, shown),
-        Entry::Reset { who } => call_line(*who, CallWord::Reset, shown),
-        Entry::Close { who } => call_line(*who, CallWord::Close, shown),
-        Entry::Take { who, unit } => EntryLine::Take {
-            who: *who,
-            unit: *unit,
-        },
+        Entry::Call { who, call } => call_line(*who, call, refusal_in(shown.events.as_slice())),
         Entry::Start { epoch, item } => EntryLine::Start {
             epoch: *epoch,
             item: *item,

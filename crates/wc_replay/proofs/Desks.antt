@@ -18,7 +18,7 @@ use Rattle.codec_accounts.specs.Registry.{BoxOut}
 use Rattle.codec_accounts.specs.Codec.{Holding, CodecValue, next_by, Keep, Give, box_step, after_give, slots_after, holding_after, step_by, after_entry, slots_by}
 use Rattle.trace_text.specs.Follow.{outcome_for, start_entry, done_entry, turn_on, media_by}
 use Rattle.wc_replay.specs.Desk as desk
-use Rattle.wc_replay.specs.Desk.{box_out, holding_with, box_of, holding_of, JobMatches, LacksBox, IsRefused, OwnsJob, IsDesk, more, renewal, codec_by, registry_by, media_by_option, media_without}
+use Rattle.wc_replay.specs.Desk.{box_out, holding_with, box_of, holding_of, JobMatches, LacksBox, IsRefused, OwnsJob, IsDesk, renewal, codec_by, registry_by, media_by_option, media_without}
 use Rattle.wc_replay.proofs.Lent.{media_same, ended_media}
 
 -- what contracts see
@@ -111,12 +111,12 @@ ended_makes k old new job d refusal moment wants s next m after ps place back is
 
 -- ---- starts
 
-idle_job : (s : State) (job : Option JobValue) (i : Item) → JobMatches s job → start_item s.control ≡ Some i → job ≡ None
+pub idle_job : (s : State) (job : Option JobValue) (i : Item) → JobMatches s job → start_item s.control ≡ Some i → job ≡ None
 idle_job s None i matches is = refl
 idle_job s (Some job) i matches is =
     let busy : may_start s.control ≡ false = rw matches.is_running refl in absurd (let no = sym busy ∙ (cond_is (may_start s.control) (front s.control.work) i is).0 in cc)
 
-some_item : (o : Option Item) (n : ℕ) (w : Work) → option_map item_parts o ≡ Some (n, w) → (i : Item) × (o ≡ Some i) × (i.number ≡ n) × (i.work ≡ w)
+pub some_item : (o : Option Item) (n : ℕ) (w : Work) → option_map item_parts o ≡ Some (n, w) → (i : Item) × (o ≡ Some i) × (i.number ≡ n) × (i.work ≡ w)
 some_item None n w is = absurd cc
 some_item (Some i) n w is = let same = some_same (item_parts i) (n, w) is in (i, refl, ap (λ x. x.0) same, ap (λ x. x.1) same)
 

@@ -1,11 +1,11 @@
 -- What codecs' entries make of the callers' media.
 use Rattle.std.proofs.Common.{ℕ, zero, suc, ◌+◌, ◌≡◌, Bool, true, false, List, [], ◌∷◌, ◌++◌, length, Option, Some, refl, ap, ◌∙◌, append-nil, arith}
 use Rattle.std.specs.Prelude.{slice_get, unwrap_or}
-use Rattle.codec_model.specs.{Control.Control, Control.turn_closes, declared.entry.Entry.Entry, declared.entry.Pair.Pair, declared.entry.Task.Task}
-use Rattle.wc_base.specs.declared.who.By.{By}
+use Rattle.codec_model.specs.{Control.Control, Control.turn_closes, declared.entry.Entry.Entry, declared.entry.Pair.Pair, declared.entry.Task.Task, declared.entry.Call.Call}
+use Rattle.wc_base.specs.declared.{who.By.By, who.Who.Who}
 use Rattle.wc_pool.specs.declared.entry.PoolEntry.{PoolEntry}
 use Rattle.codec_model.specs.Replay.{State}
-use Rattle.codec_model.specs.Held.{held_in, running_pairs, waiting_held, adds_held, lets_go, closes_codec}
+use Rattle.codec_model.specs.Held.{held_in, running_pairs, waiting_held, adds_held, lets_go, closes_codec, is_removal}
 use Rattle.codec_core.specs.Codec.{closes_now}
 use Rattle.codec_accounts.specs.{Codec.CodecValue, Codec.state_of, ListLaws.get_kept}
 use Rattle.media_variables.specs.{Variables.Medium, Variables.Media, Held.AreApart}
@@ -55,3 +55,10 @@ apart_waiting m v d true ps same is h =
     let ys = waiting_held (state_of d).control in
     rw (is, same) (apart_part m.pool m.variables (xs ++ ys) ys (λ i. length xs + i) (λ i j e. omega (arith, e)) (λ i p at. get_behind xs ys i (length xs + i) refl ∙ at) h)
 apart_waiting m v d false ps same is h = rw is (apart_part m.pool m.variables (held_in (state_of d)) [] (λ i. i) (λ i j e. e) (λ i p at. absurd cc) h)
+
+-- what a call lets go is what waits, where it removes
+pub apart_gone : (m : Media) (d : CodecValue) (who : Who) (x : Call) → AreApart m.pool m.variables (held_in (state_of d)) → AreApart m.pool m.variables (lets_go (Entry.Call who x) (state_of d))
+apart_gone m d who x h = apart_waiting m d d (is_removal (Entry.Call who x) (state_of d)) (lets_go (Entry.Call who x) (state_of d)) refl refl h
+
+pub apart_none : (m : Media) → AreApart m.pool m.variables []
+apart_none m = record { lives = λ i p here. absurd cc; once = λ i j p q here there same. absurd cc; elsewhere = λ i k j p r here held. absurd cc }

@@ -1,5 +1,5 @@
 -- What a take of a caller finds and makes, and the move of a step on media.
-use Rattle.std.proofs.Common.{ℕ, zero, suc, ◌≡◌, ◌∙◌, ◌≤◌, false, eq-eqb, Option, Some, None, is_some, List, [], ◌∷◌, length, refl, ap, sym, subst, arith}
+use Rattle.std.proofs.Common.{ℕ, zero, suc, ◌≡◌, ◌∙◌, ◌≤◌, true, false, eq-eqb, Option, Some, None, is_some, List, [], ◌∷◌, ◌++◌, length, refl, ap, sym, subst, arith}
 use Rattle.std.specs.Prelude.{slice_get, slice_set, IfSome, IfNone, IfOk, Result, Ok, Err, option_map}
 use Rattle.std.specs.List.{AllByRecursion}
 use Rattle.std.proofs.lemmas.Bool.{ltb-false}
@@ -9,18 +9,17 @@ use Rattle.report_text.specs.declared.result.StepResult.{StepResult}
 use Rattle.codec_accounts.specs.Owed.{append_at}
 use Rattle.codec_definitions.specs.declared.unit.Unit as media
 use Rattle.codec_definitions.specs.declared.unit.Unit.TheVariants as unit
-use Rattle.codec_model.specs.{declared.entry.Entry.Entry, Control.may_take, Shown.shown, Shown.outputs_of}
-use Rattle.codec_core.specs.{declared.reply.Taken.Taken, Job.JobValue}
-use Rattle.codec_core.specs.Codec.{Codec, state_at, Makes}
-use Rattle.codec_media.specs.Holding.{Holding}
+use Rattle.codec_model.specs.{declared.entry.Entry.Entry, declared.entry.Call.Call, Control.may_take, Shown.shown, Shown.outputs_of}
+use Rattle.codec_core.specs.{Job.JobValue, Codec.Codec, Codec.state_at}
+use Rattle.slot_registry.specs.Slots.{SlotsValue}
 use Rattle.history_laws.specs.{Outputs.IsWholeUnit, CountLaws.shown_counted, WholeLaws.outputs_are_whole}
 use Rattle.media_variables.specs.Held.{IsEnoughUnit}
-use Rattle.wc_replay.specs.Desk.{holding_of, IsDesk, Takes, Received, more}
-use Rattle.wc_replay.proofs.{Desks.seen, Desks.seen_more, Lent.media_same, Looks.set_same}
-use Rattle.codec_accounts.specs.Codec.{CodecValue, codec_at, state_of}
+use Rattle.wc_replay.specs.{declared.desk.Output.Output, Desk.IsDesk, Desk.IsNext}
+use Rattle.wc_replay.proofs.{Desks.seen, Lent.media_same}
+use Rattle.codec_accounts.specs.Codec.{CodecValue, codec_at, codecs_after, slots_by, state_of}
 use Rattle.media_variables.specs.Variables as variables
 use Rattle.media_variables.specs.Variables.{Media, Came, IsCome, media_came, sound_at, taken_came, unit_came, after_came, variables_of}
-use Rattle.trace_text.specs.Follow.{Course, after_move, media_by, take_move, found_at}
+use Rattle.trace_text.specs.Follow.{Course, Answer, after_move, take_move, found_at}
 
 -- ---- a codec's next output
 
@@ -41,55 +40,41 @@ none_left old job refusal d may =
     let count = shown_counted old.opening old.history (state_at old) d.legal in
     slice_get_past (outputs_of (shown old.opening old.history)) c.taken (omega (arith, less, count))
 
--- what a take of a core answers, as contracts see it
-pub received : (r : Result (Option Taken) NoMemory) (who : Who) (old new : Holding) (job : Option JobValue) (refusal : Option ℕ) (v : CodecValue) → IsDesk old.codec job refusal → seen old.codec job refusal ≡ v
-    → IfOk r (λ o. is_some o ≡ may_take (state_at old.codec).control.taken (state_at old.codec).control)
-    → IfOk r (λ o. IfSome o (λ t. Makes old.codec new.codec (Entry.Take who t.number))) → IfOk r (λ o. IfSome o (λ t. t.place ≡ length old.codec.history)) → IfOk r (λ o. IfSome o (λ t. t.number ≡ (state_at old.codec).control.taken))
-    → IfOk r (λ o. IfSome o (λ t. slice_get (outputs_of (shown old.codec.opening old.codec.history)) t.number ≡ Some t.unit))
-    → IfOk r (λ o. IfNone o (new ≡ old)) → new.codec.slot ≡ old.codec.slot → IfOk r (Received who v (seen new.codec job refusal))
-received (Ok None) who old new job refusal v d is may made place number unit none slot =
-    subst (λ (x : CodecValue). Received who x (seen new.codec job refusal) None) is (none_left old.codec job refusal d may, ap (λ (c : Holding). seen c.codec job refusal) none)
-received (Ok (Some t)) who old new job refusal v d is may made place number unit none slot = subst (λ (x : CodecValue). Takes who x (seen new.codec job refusal) t) is (record {
-  next = ap (λ (n : ℕ). slice_get (outputs_of (shown old.codec.opening old.codec.history)) n) (sym number) ∙ unit;
-  place = place;
-  number = number;
-  made = seen_more old.codec new.codec (Entry.Take who t.number) job job refusal refusal (holding_of old.codec.slot job refusal) made (ap (λ s. holding_of s job refusal) slot);
-  enough = enough t.unit (at_each IsWholeUnit (outputs_of (shown old.codec.opening old.codec.history)) t.number t.unit (outputs_are_whole old.codec.opening old.codec.history) unit);
-})
-received (Err e) who old new job refusal v d is may made place number unit none slot = tt
+-- the next output of a core, as contracts see it
+pub none_next : (old : Codec) (job : Option JobValue) (refusal : Option ℕ) (v : CodecValue) → IsDesk old job refusal → seen old job refusal ≡ v → false ≡ may_take (state_at old).control.taken (state_at old).control → IsNext v None
+none_next old job refusal v d is may = subst (λ (x : CodecValue). IsNext x None) is (none_left old job refusal d may)
+
+pub some_next : (old : Codec) (job : Option JobValue) (refusal : Option ℕ) (v : CodecValue) (t : Output) → seen old job refusal ≡ v → slice_get (outputs_of (shown old.opening old.history)) (state_at old).control.taken ≡ Some t.unit → t.number ≡ (state_at old).control.taken → true ≡ may_take (state_at old).control.taken (state_at old).control → IsNext v (Some t)
+some_next old job refusal v t is unit number may =
+    subst (λ (x : CodecValue). IsNext x (Some t)) is (unit, number, enough t.unit (at_each IsWholeUnit (outputs_of (shown old.opening old.history)) (state_at old).control.taken t.unit (outputs_are_whole old.opening old.history) unit), rw number (sym may))
 
 -- ---- the move of a take
 
 -- what a take finds, where the next output is this one
-found : (k : ℕ) (d : CodecValue) (who : Who) (new : CodecValue) (t : Taken) → Takes who d new t → found_at k d ≡ Some (record { unit = t.unit; answer = StepResult.Unit k t.place t.number })
-found k d who new t is = rw (is.place, is.number, is.next) refl
+found : (k place : ℕ) (d : CodecValue) (t : Output) → IsNext d (Some t) → place ≡ length d.history → found_at k d ≡ Some (record { unit = t.unit; answer = StepResult.Unit k place t.number })
+found k place d t is at = rw (at, is.1, is.0) refl
 
 -- a take that found an output is its move
-pub took : (v : Course) (who : Who) (k : ℕ) (t : Taken) (new : CodecValue) (callers : List (List StepResult)) (codecs : List CodecValue) (m : Media) (r : StepResult)
-    → Takes who (codec_at k v.codecs) new t → codecs ≡ slice_set v.codecs k new
-    → IsCome v.media m who (taken_came v.media.pool who.step (Some (record { unit = t.unit; answer = StepResult.Unit k t.place t.number })) (variables_of who.caller v.media.variables)) (Some r)
+pub took : (v : Course) (who : Who) (k place : ℕ) (t : Output) (callers : List (List StepResult)) (codecs : List CodecValue) (m after : Media) (slots : SlotsValue) (r : StepResult)
+    → IsNext (codec_at k v.codecs) (Some t) → codecs ≡ codecs_after k (Entry.Call who (Call.Take t.number)) v.slots v.codecs → slots ≡ slots_by k (Entry.Call who (Call.Take t.number)) v.slots (codec_at k v.codecs)
+    → m ≡ record v.media { pool = v.media.pool ++ [] } → place ≡ length (codec_at k v.codecs).history
+    → IsCome m after who (taken_came m.pool who.step (Some (record { unit = t.unit; answer = StepResult.Unit k place t.number })) (variables_of who.caller m.variables)) (Some r)
     → callers ≡ append_at who.caller r v.callers
-    → ◌≡◌ {A = Course} (record { callers = callers; codecs = codecs; media = m; slots = v.slots }) (after_move (take_move who k (codec_at k v.codecs) (taken_came v.media.pool who.step (found_at k (codec_at k v.codecs)) (variables_of who.caller v.media.variables))) v)
-took v who k t new callers codecs m r is set come noted =
+    → ◌≡◌ {A = Course} (record { callers = callers; codecs = codecs; media = after; slots = slots }) (after_move (take_move who k (codec_at k v.codecs) (taken_came v.media.pool who.step (found_at k (codec_at k v.codecs)) (variables_of who.caller v.media.variables))) v)
+took v who k place t callers codecs m after slots r is set went left at come noted =
     let d = codec_at k v.codecs in
-    let y : Came = unit_came v.media.pool who.step (StepResult.Unit k t.place t.number) t.unit (variables_of who.caller v.media.variables) in
-    let answer : r ≡ y.answer = some_same r y.answer come.0 in
-    let entry_is : new ≡ more (Entry.Take who (state_of d).control.taken) d = is.made ∙ ap (λ (n : ℕ). more (Entry.Take who n) d) is.number in
-    let stays : media_by k (Entry.Take who (state_of d).control.taken) d v.media ≡ v.media = media_same v.media in
+    let same : m ≡ v.media = left ∙ media_same v.media in
+    let here = subst (λ (x : Media). IsCome x after who (taken_came x.pool who.step (Some (record { unit = t.unit; answer = StepResult.Unit k place t.number })) (variables_of who.caller x.variables)) (Some r)) same come in
+    let y : Came = unit_came v.media.pool who.step (StepResult.Unit k place t.number) t.unit (variables_of who.caller v.media.variables) in
+    let answer : r ≡ y.answer = some_same r y.answer here.0 in
     let results = noted ∙ ap (λ (x : StepResult). append_at who.caller x v.callers) answer in
-    let codecs_are = set ∙ ap (λ (x : CodecValue). slice_set v.codecs k x) entry_is in
-    let media_is = come.1 ∙ ap (λ (z : Media). after_came who y z) (sym stays) in
-    (λ i. record { callers = results i; codecs = codecs_are i; media = media_is i; slots = v.slots })
-    ∙ ap (λ (o : Option variables.Taken). after_move (take_move who k d (taken_came v.media.pool who.step o (variables_of who.caller v.media.variables))) v) (sym (found k d who new t is))
+    let codecs_are = set ∙ ap (λ (n : ℕ). codecs_after k (Entry.Call who (Call.Take n)) v.slots v.codecs) is.1 in
+    let slots_are = went ∙ ap (λ (n : ℕ). slots_by k (Entry.Call who (Call.Take n)) v.slots d) is.1 in
+    let media_is = here.1 ∙ ap (λ (z : Media). after_came who y z) (sym (media_same v.media)) in
+    (λ i. record { callers = results i; codecs = codecs_are i; media = media_is i; slots = slots_are i })
+    ∙ ap (λ (o : Option variables.Taken). after_move (take_move who k d (taken_came v.media.pool who.step o (variables_of who.caller v.media.variables))) v) (sym (found k place d t is at))
 
 -- a take that found none is a look
-pub found_none : (v : Course) (who : Who) (k : ℕ) (new : CodecValue) (callers : List (List StepResult)) (codecs : List CodecValue) (r : StepResult)
-    → Received who (codec_at k v.codecs) new None → codecs ≡ slice_set v.codecs k new → r ≡ StepResult.NoUnit k (length new.history) → callers ≡ append_at who.caller r v.callers
-    → ◌≡◌ {A = Course} (record { callers = callers; codecs = codecs; media = v.media; slots = v.slots }) (after_move (take_move who k (codec_at k v.codecs) (taken_came v.media.pool who.step (found_at k (codec_at k v.codecs)) (variables_of who.caller v.media.variables))) v)
-found_none v who k new callers codecs r is set came noted =
-    let d = codec_at k v.codecs in
-    let none : found_at k d ≡ None = ap (λ (o : Option media.Unit). option_map (λ u. record { unit = u; answer = StepResult.Unit k (length d.history) (state_of d).control.taken }) o) is.0 in
-    let results = noted ∙ ap (λ (x : StepResult). append_at who.caller x v.callers) (came ∙ ap (λ (x : CodecValue). StepResult.NoUnit k (length x.history)) is.1) in
-    let codecs_are = set ∙ (ap (λ (x : CodecValue). slice_set v.codecs k x) is.1 ∙ set_same v.codecs k) in
-    (λ i. record { callers = results i; codecs = codecs_are i; media = v.media; slots = v.slots })
-    ∙ ap (λ (o : Option variables.Taken). after_move (take_move who k d (taken_came v.media.pool who.step o (variables_of who.caller v.media.variables))) v) (sym none)
+pub found_none : (v : Course) (who : Who) (k : ℕ) → IsNext (codec_at k v.codecs) None
+    → take_move who k (codec_at k v.codecs) (taken_came v.media.pool who.step (found_at k (codec_at k v.codecs)) (variables_of who.caller v.media.variables)) ≡ Answer who.caller (StepResult.NoUnit k (length (codec_at k v.codecs).history))
+found_none v who k is = rw is refl

@@ -5,17 +5,17 @@ use Rattle.wc_config.specs.declared.codec.CoderId.{CoderId}
 use Rattle.slot_registry.specs.Slots.{SlotsValue}
 use Rattle.codec_definitions.specs.declared.unit.Unit as media
 use Rattle.codec_model.specs.declared.entry.Entry.{Entry}
-use Rattle.codec_model.specs.Replay.{State, replay}
+use Rattle.codec_model.specs.{Replay.State, Replay.replay, Control.may_take}
 use Rattle.codec_model.specs.Held.{waiting_held}
 use Rattle.wc_base.specs.declared.who.By.{By}
 use Rattle.wc_base.specs.declared.who.Who.{Who}
 use Rattle.codec_model.specs.declared.entry.Entry.TheVariants as entry
-use Rattle.codec_core.specs.declared.reply.Taken.{Taken}
+use Rattle.wc_replay.specs.declared.desk.Output.{Output}
 use Rattle.media_variables.specs.Held.{IsEnoughUnit}
 use Rattle.trace_text.specs.Follow.{output_at, media_by}
 use Rattle.codec_core.specs.Codec.{Codec, state_at}
 use Rattle.codec_core.specs.Job.{JobValue, IsJobOf, missing_id}
-use Rattle.codec_core.specs.Owning.{asked_of, IsOwnJob}
+use Rattle.codec_core.specs.Owning.{IsOwnJob}
 use Rattle.codec_accounts.specs.Registry.{BoxOut}
 use Rattle.codec_accounts.specs.Codec.{Holding, CodecValue, state_of, BoxStep, Keep, Renew, after_entry, slots_by}
 use Rattle.codec_model.specs.declared.entry.Pair.{Pair}
@@ -56,7 +56,7 @@ IsRefused (Some job) refusal = LacksBox job refusal
 -- a job that is out is the codec's own
 abbrev pub OwnsJob : Codec → Option JobValue → Type 0
 OwnsJob core None = Unit {0}
-OwnsJob core (Some job) = IsOwnJob (asked_of core) job
+OwnsJob core (Some job) = IsOwnJob core.out job
 
 -- the job is out exactly while an item is running
 pub record IsDesk (core : Codec) (job : Option JobValue) (refusal : Option ℕ) : Type 0 where
@@ -67,26 +67,14 @@ pub record IsDesk (core : Codec) (job : Option JobValue) (refusal : Option ℕ) 
   -- while an item is running its codec has no box
   pub away : is_some job ≡ true → core.slot ≡ None
 
--- with this entry too, which leaves its box alone
-abbrev pub more : Entry → CodecValue → CodecValue
-more e d = record d { history = d.history ++ e ∷ [] }
-
 -- the output of a codec that is taken next, if one is left
 abbrev pub next_output : CodecValue → Option media.Unit
 next_output d = output_at d.opening d.history (state_of d).control.taken
 
--- a caller took this output of the codec, which is the next one
-pub record Takes (who : Who) (old new : CodecValue) (t : Taken) : Type 0 where
-  pub next : next_output old ≡ Some t.unit
-  pub place : t.place ≡ length old.history
-  pub number : t.number ≡ (state_of old).control.taken
-  pub made : new ≡ more (entry.Take who t.number) old
-  pub enough : IsEnoughUnit t.unit
-
--- a caller took an output of the codec, or none is left and nothing has changed
-abbrev pub Received : Who → CodecValue → CodecValue → Option Taken → Type 0
-Received who old new None = (next_output old ≡ None) × (new ≡ old)
-Received who old new (Some t) = Takes who old new t
+-- the next output of a codec, if one is left, with its number
+abbrev pub IsNext : CodecValue → Option Output → Type 0
+IsNext d None = next_output d ≡ None
+IsNext d (Some x) = (next_output d ≡ Some x.unit) × (x.number ≡ (state_of d).control.taken) × IsEnoughUnit x.unit × (may_take x.number (state_of d).control ≡ true)
 
 -- a job that lacks a box of this id renews its box
 abbrev pub renewal : Option CoderId → BoxStep

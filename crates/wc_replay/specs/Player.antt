@@ -51,9 +51,9 @@ call_in (Some (result.Call k place error)) = Some (k, place)
 call_in _ = None
 
 -- the codec and the variable of a step that encodes, if it is one
-abbrev pub encode_of : MediaStep → Option (ℕ × ℕ)
-encode_of (on_media.Encode on content) = Some (on, content.step)
-encode_of _ = None
+abbrev pub encoded_by : MediaStep → Option (ℕ × ℕ)
+encoded_by (on_media.Encode on content) = Some (on, content.step)
+encoded_by _ = None
 
 -- ---- the beginning and the end of a replay
 

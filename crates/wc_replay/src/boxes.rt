@@ -1,6 +1,7 @@
 // The boxes that codecs take from the registry and give back, and what they let go.
-ghost use Rattle.std.specs.Prelude.{◌≡◌, ℕ, IfOk, OnOk, Option, option_map, is_some, true, Some, None, length};
+ghost use Rattle.std.specs.Prelude.{◌≡◌, IfOk, OnOk, option_map, is_some, true, Some, None, length};
 ghost use Rattle.codec_accounts.specs.Codec.{IsGivable, after_give, after_ask, slots_after, holding_after};
+ghost use Rattle.codec_core.specs.declared.out.Out.{Out};
 ghost use Rattle.codec_core.specs.Codec.{IsBy};
 ghost use Rattle.codec_core.specs.Job.{IsJobOf, missing_id};
 ghost use Rattle.codec_core.specs.Owning.{IsOwnJob};
@@ -53,7 +54,7 @@ pub(crate) fn let_go<C: Coder>(
 fn emptied<C: Coder>(mut job: Job<C>) -> (Job<C>, Option<SlotBox<C>>)
     requires { is_some (missing_id job) ≡ true }
     ensures stays { (s : State) → IsJobOf s job → IsJobOf s result.0 }
-    ensures own { (at : Option ℕ) → IsOwnJob at job → IsOwnJob at result.0 }
+    ensures own { (out : Out) → IsOwnJob out job → IsOwnJob out result.0 }
     ensures place { result.0.place ≡ job.place }
     ensures none { result.0.coder ≡ None }
     ensures lacks { missing_id result.0 ≡ missing_id job }
@@ -73,7 +74,7 @@ fn lend<C: Coder>(
     requires lacks { missing_id job ≡ Some id }
     requires none { job.coder ≡ None }
     requires start { IsBy by (Some job.place) }
-    ensures own { (at : Option ℕ) → IsOwnJob at job → IsOwnJob at result.0 }
+    ensures own { (out : Out) → IsOwnJob out job → IsOwnJob out result.0 }
     ensures empty { LacksBox result.0 None }
     ensures stays { (s : State) → IsJobOf s job → IsJobOf s result.0 }
     ensures refused { IfOk result.1 (LacksBox result.0) }
@@ -106,7 +107,7 @@ pub(crate) fn fill<C: Coder>(
 ) -> (Job<C>, Result<Option<u64>, NoMemory>)
     requires givable { IsGivable slots.old.history by (option_map box_out job.coder) }
     requires start { IsBy by (Some job.place) }
-    ensures own { (at : Option ℕ) → IsOwnJob at job → IsOwnJob at result.0 }
+    ensures own { (out : Out) → IsOwnJob out job → IsOwnJob out result.0 }
     ensures empty { LacksBox result.0 None }
     ensures stays { (s : State) → IsJobOf s job → IsJobOf s result.0 }
     ensures refused { IfOk result.1 (LacksBox result.0) }

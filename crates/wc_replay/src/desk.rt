@@ -1,31 +1,32 @@
 // A codec at work in a replay.
-ghost use Rattle.std.specs.Prelude.{◌≡◌, ◌≤◌, Bool, [], ◌∷◌, ◌++◌, ℕ, Option, IfOk, IfSome, OnOk, OnErr, OnSome, IfNone, length, None, Some, is_some, is_none, not, option_map, true, false};
+ghost use Rattle.std.specs.Prelude.{◌≡◌, ◌≤◌, Bool, [], ◌∷◌, ◌++◌, ℕ, Option, IfOk, IfSome, OnOk, OnErr, OnSome, IfNone, length, map, None, Some, is_some, not, option_map, true, false};
 ghost use Rattle.codec_accounts.specs.Codec.{new_codec, state_of, next_by, after_entry, slots_by, IsGivable};
-ghost use Rattle.codec_core.specs.Codec.{state_at, Makes as CoreMakes, KeepsRunning, IsAskedAt, kept_box, handed_back, closes_now};
-ghost use Rattle.codec_core.specs.Owning.{IsOwnJob, KeepsAsked};
+ghost use Rattle.codec_core.specs.declared.out.Out.{Out};
+ghost use Rattle.codec_core.specs.Codec.{state_at, Makes as CoreMakes, KeepsRunning, IsBack, kept_box, handed_back, box_stays, closes_now};
+ghost use Rattle.codec_core.specs.Owning.{IsOwnJob};
 ghost use Rattle.codec_core.specs.Job.{IsJobOf, IsEndOf, outcome_of};
 ghost use Rattle.codec_model.specs.declared.entry.Entry.TheVariants as entry;
 ghost use Rattle.codec_model.specs.Control.{kind_of};
-ghost use Rattle.codec_model.specs.Held.{held_in};
-ghost use Rattle.codec_model.specs.Replay.{State, entry_of, encode_entry, refused_encode, removal_entry, call_error, encode_error, removal_error, answer_to};
+ghost use Rattle.codec_model.specs.Held.{held_in, in_order, adds_held, lets_go};
+ghost use Rattle.codec_model.specs.Replay.{State, may_call, sends, call_error, encode_error, answer_to};
 ghost use Rattle.codec_model.specs.Shown.{each_shown, exception_of};
 ghost use Rattle.media_variables.specs.Held.{AreApart, pair_of};
 ghost use Rattle.media_variables.specs.Variables.{Media};
-ghost use Rattle.trace_text.specs.Follow.{promise_after, outcome_for, start_entry, done_entry, turn_entry, reclaim_entry, item_entry, media_by};
-ghost use Rattle.wc_replay.specs.Desk.{box_out, box_in, pairs_in, waiting_if, LacksBox, more, Makes, Received};
+ghost use Rattle.trace_text.specs.Follow.{promise_after, outcome_for, start_entry, done_entry, turn_entry, reclaim_entry, item_entry};
+ghost use Rattle.wc_replay.specs.Desk.{box_out, box_in, pairs_in, waiting_if, media_without, LacksBox, Makes, IsNext};
 
 use crate::boxes::{fill, give, let_go};
-use codec_core::{CallFault, DoneJob, Job, Taken};
+use codec_core::{DoneJob, Job};
 use codec_drive::run;
-use codec_media::{HoldingCore, Removed};
-use codec_model::{Call, CodecState, Entry, Opening, PromiseState, Removal, Shown, shown_list};
-use coder_api::Coder;
+use codec_media::{HoldingCore, Removed, Reply};
+use codec_model::{Call, CodecState, Entry, Opening, PromiseState, Shown, shown_list};
+use coder_api::{Coder, Unit};
 use media_variables::CallerMedia;
 use script_types::OrderItem;
 use slot_registry::Slots;
 use std::alloc::Global;
 use std::marker::Model;
-use wc_base::{By, DomError, NoMemory, Samples, Who};
+use wc_base::{By, DomError, NoMemory, Who};
 use wc_pool::MediaRef;
 
 /// A codec with the references that it holds, and the job of its running item with the entry that refused it a box.
@@ -54,6 +55,13 @@ pub(crate) struct Answer {
     pub(crate) error: Option<DomError>,
 }
 
+/// The next output of a codec, with its number.
+#[derive(Drop)]
+pub(crate) struct Output {
+    pub(crate) number: u64,
+    pub(crate) unit: Unit,
+}
+
 impl<C: Coder> Desk<C> {
     pub(crate) fn open(alloc: Global, opening: Opening) -> Result<Desk<C>, NoMemory>
         requires low { 1 ≤ opening.saturation }
@@ -68,21 +76,58 @@ impl<C: Coder> Desk<C> {
         })
     }
 
-    /// A configure, decode or flush of a caller.
-    pub(crate) fn call(&mut self, who: Who, call: Call) -> Result<Answer, NoMemory>
-        ensures made { OnOk result (self.new ≡ more (entry_of who call) self.old) }
+    /// A call of a caller, of the codec with this number, with the reference that it brings, if it brings one. The box that
+    /// it lets go goes back, and the references that it lets go end.
+    pub(crate) fn call(
+        &mut self,
+        codec: u32,
+        slots: &mut Slots<C>,
+        media: &mut CallerMedia,
+        who: Who,
+        call: Call,
+        held: Option<MediaRef>,
+    ) -> Result<Answer, NoMemory>
+        requires may { may_call call (state_of self.old).control ≡ true }
+        requires held { map pair_of (in_order held) ≡ adds_held (entry.Call who call) }
+        requires givable { IsGivable slots.old.history
+            (next_by codec self.old) self.old.holding.box }
+        requires lent { AreApart media.old.pool media.old.variables
+            (lets_go (entry.Call who call) (state_of self.old)) }
+        ensures made { OnOk result
+            (self.new ≡ after_entry codec (entry.Call who call) slots.old self.old) }
+        ensures slots { OnOk result
+            (slots.new ≡ slots_by codec (entry.Call who call) slots.old self.old) }
+        ensures media { OnOk result
+            (media.new
+            ≡ media_without (next_by codec self.old)
+            (lets_go (entry.Call who call) (state_of self.old)) media.old) }
         ensures place { IfOk result (λ a. a.place ≡ length self.old.history) }
         ensures error { IfOk result
             (λ a. a.error ≡ exception_of call (call_error call (state_of self.old).control)) }
     {
-        ask(&mut self.core, who, call)
+        let reply = ask(&mut self.core, who, call, held)?;
+        let place = reply.place;
+        let by = By::Codec { codec, place };
+        media.end_all(by, reply.media);
+        give(slots, by, reply.coder);
+        Ok(Answer {
+            place,
+            error: reply.exception,
+        })
     }
 
-    /// A take of a caller: the first output that was shown and not taken yet, if one is left.
-    pub(crate) fn receive(&mut self, who: Who) -> Result<Option<Taken>, NoMemory>
-        ensures { IfOk result (Received who self.old self.new) }
+    /// The first output that was shown and not taken yet, again, if one is left.
+    pub(crate) fn next_output(&self) -> Result<Option<Output>, NoMemory>
+        ensures { IfOk result (IsNext self.now) }
     {
-        self.core.take(who)
+        let core = self.core.core();
+        match core.next_output() {
+            Some(unit) => Ok(Some(Output {
+                number: core.taken(),
+                unit: unit.copy()?,
+            })),
+            None => Ok(None),
+        }
     }
 
     /// The error with which an encode would be refused now, of data that is detached or is not.
@@ -90,71 +135,6 @@ impl<C: Coder> Desk<C> {
         ensures { result ≡ encode_error detached (state_of self.now).control }
     {
         self.core.encode_refusal(detached)
-    }
-
-    /// An encode of a caller that is not refused, of samples with the reference that the codec holds from now on.
-    pub(crate) fn encode(
-        &mut self,
-        who: Who,
-        samples: Samples,
-        held: MediaRef,
-    ) -> Result<Answer, NoMemory>
-        requires { encode_error false (state_of self.old).control ≡ None }
-        ensures made { OnOk result
-            (self.new
-            ≡ more
-            (encode_entry who (record { samples = samples; pair = pair_of held })) self.old) }
-        ensures place { IfOk result (λ a. a.place ≡ length self.old.history) }
-        ensures error { IfOk result (λ a. a.error ≡ None) }
-    {
-        match self.core.encode(who, samples, held) {
-            Ok(place) => Ok(Answer { place, error: None }),
-            Err(_) => Err(NoMemory),
-        }
-    }
-
-    /// An encode of a caller that is refused, of data that is detached or is not.
-    pub(crate) fn refuse_encode(&mut self, who: Who, detached: bool) -> Result<Answer, NoMemory>
-        requires { is_some (encode_error detached (state_of self.old).control) ≡ true }
-        ensures made { OnOk result
-            (self.new ≡ more (refused_encode who detached) self.old) }
-        ensures place { IfOk result (λ a. a.place ≡ length self.old.history) }
-        ensures error { IfOk result
-            (λ a. a.error ≡ encode_error detached (state_of self.old).control) }
-    {
-        let (error, place) = self.core.refuse_encode(who, detached)?;
-        let error = Some(error);
-        Ok(Answer { place, error })
-    }
-
-    /// A reset or close of a caller, of the codec with this number; the box that it lets go goes back, and the references
-    /// end.
-    pub(crate) fn remove(
-        &mut self,
-        codec: u32,
-        slots: &mut Slots<C>,
-        media: &mut CallerMedia,
-        who: Who,
-        removal: Removal,
-    ) -> Result<Answer, NoMemory>
-        requires givable { IsGivable slots.old.history
-            (next_by codec self.old) self.old.holding.box }
-        requires lent { AreApart media.old.pool media.old.variables
-            (held_in (state_of self.old)) }
-        ensures made { OnOk result
-            (self.new ≡ after_entry codec (removal_entry who removal) slots.old self.old) }
-        ensures slots { OnOk result
-            (slots.new ≡ slots_by codec (removal_entry who removal) slots.old self.old) }
-        ensures media { OnOk result
-            (media.new ≡ media_by codec (removal_entry who removal) self.old media.old) }
-        ensures place { IfOk result (λ a. a.place ≡ length self.old.history) }
-        ensures error { IfOk result (λ a. a.error ≡ removal_error (state_of self.old).control) }
-    {
-        self.core.reserve(1)?;
-        let (answer, removed) = remove(&mut self.core, who, removal);
-        let place = answer.place;
-        let_go(slots, media, By::Codec { codec, place }, removed);
-        Ok(answer)
     }
 
     /// A start: the front item's job goes out, with the box that it needs or the entry that refused it one. The callers'
@@ -293,58 +273,50 @@ impl<C: Coder> Desk<C> {
     }
 }
 
-// A call on a core: its entry is made, or memory was wanted and nothing has changed.
-fn ask<C: Coder>(core: &mut HoldingCore<C>, who: Who, call: Call) -> Result<Answer, NoMemory>
-    ensures made { OnOk result (CoreMakes core.old.codec core.new.codec (entry_of who call)) }
-    ensures place { IfOk result (λ a. a.place ≡ length core.old.codec.history) }
-    ensures error { IfOk result
-        (λ a. a.error ≡ exception_of call (call_error call (state_at core.old.codec).control)) }
-    ensures running { KeepsRunning (state_at core.old.codec) (state_at core.new.codec) }
-    ensures asked { KeepsAsked core.old.codec core.new.codec }
-    ensures slot { core.new.codec.slot ≡ core.old.codec.slot }
-    ensures err { OnErr result (core.new.codec ≡ core.old.codec) }
+// Makes the place that a call takes which sends no message.
+fn reserve_for<C: Coder>(core: &mut HoldingCore<C>, call: &Call) -> Result<(), NoMemory>
+    ensures spare { OnOk result (sends call.now ≡ false → 1 ≤ core.new.codec.spare) }
+    ensures codec { core.new.codec
+        ≡ record core.old.codec { spare = core.new.codec.spare } }
+    ensures working { core.new.working ≡ core.old.working }
+    ensures waiting { core.new.waiting ≡ core.old.waiting }
 {
-    match core.call(who, call) {
-        Ok(reply) => Ok(Answer {
-            place: reply.place,
-            error: None,
-        }),
-        Err(CallFault::Dom { error, place }) => Ok(Answer {
-            place,
-            error: Some(error),
-        }),
-        Err(CallFault::NoMemory) => Err(NoMemory),
+    if call.sends() {
+        Ok(())
+    } else {
+        core.reserve(1)
     }
 }
 
-// A reset or close on a codec, with what it lets go, if it is not refused.
-fn remove<C: Coder>(
+// A call on a core: its entry is made, or memory was wanted and it stands as it did.
+fn ask<C: Coder>(
     core: &mut HoldingCore<C>,
     who: Who,
-    removal: Removal,
-) -> (Answer, Option<Removed<C>>)
-    requires { 1 ≤ core.old.codec.spare }
-    ensures made { CoreMakes core.old.codec core.new.codec (removal_entry who removal) }
-    ensures place { result.0.place ≡ length core.old.codec.history }
-    ensures error { result.0.error ≡ removal_error (state_at core.old.codec).control }
-    ensures handed { let refused = is_some (removal_error (state_at core.old.codec).control) in
-        box_in result.1 ≡ handed_back refused core.old.codec.slot }
-    ensures gone { let goes = is_none (removal_error (state_at core.old.codec).control) in
-        pairs_in result.1 ≡ waiting_if goes (state_at core.old.codec) }
-    ensures slot { let refused = is_some (removal_error (state_at core.old.codec).control) in
-        core.new.codec.slot ≡ kept_box refused core.old.codec.slot }
+    call: Call,
+    held: Option<MediaRef>,
+) -> Result<Reply<C>, NoMemory>
+    requires may { may_call call (state_at core.old.codec).control ≡ true }
+    requires held { map pair_of (in_order held) ≡ adds_held (entry.Call who call) }
+    ensures made { OnOk result
+        (CoreMakes core.old.codec core.new.codec (entry.Call who call)) }
+    ensures place { IfOk result (λ r. r.place ≡ length core.old.codec.history) }
+    ensures error { let error = call_error call (state_at core.old.codec).control in
+        IfOk result (λ r. r.exception ≡ exception_of call error) }
+    ensures handed { let stays = box_stays who call (state_at core.old.codec) in
+        IfOk result (λ r. r.coder ≡ handed_back stays core.old.codec.slot) }
+    ensures gone { let old = state_at core.old.codec in
+        IfOk result (λ r. map pair_of r.media ≡ lets_go (entry.Call who call) old) }
+    ensures slot { let stays = box_stays who call (state_at core.old.codec) in
+        OnOk result (core.new.codec.slot ≡ kept_box stays core.old.codec.slot) }
     ensures running { KeepsRunning (state_at core.old.codec) (state_at core.new.codec) }
-    ensures asked { KeepsAsked core.old.codec core.new.codec }
+    ensures out { core.new.codec.out ≡ core.old.codec.out }
+    ensures err { OnErr result
+        (core.new.codec ≡ record core.old.codec { spare = core.new.codec.spare }) }
 {
-    match core.remove(who, removal) {
-        Ok(removed) => {
-            let place = removed.place;
-            (Answer { place, error: None }, Some(removed))
-        }
-        Err((error, place)) => {
-            let error = Some(error);
-            (Answer { place, error }, None)
-        }
+    reserve_for(core, &call)?;
+    match core.call(who, call, held) {
+        Ok(reply) => Ok(reply),
+        Err(_) => Err(NoMemory),
     }
 }
 
@@ -352,7 +324,7 @@ fn remove<C: Coder>(
 fn end_of_job<C: Coder>(alloc: Global, job: Job<C>, refusal: Option<u64>) -> DoneJob<C>
     requires { LacksBox job refusal }
     ensures end { (s : State) → IsJobOf s job → IsEndOf s result }
-    ensures own { (at : Option ℕ) → IsOwnJob at job → IsAskedAt at result.coder }
+    ensures own { (out : Out) → IsOwnJob out job → IsBack out result.coder }
     ensures outcome { (s : State) → IsJobOf s job → (wants : Bool)
         ×
         (outcome_of result.ended
@@ -387,7 +359,7 @@ fn run_task<C: Coder>(core: &mut HoldingCore<C>) -> Option<(u64, Option<Removed<
         OnSome result (core.new.codec.slot ≡ kept_box (not closes) core.old.codec.slot) }
     ensures running { OnSome result
         (KeepsRunning (state_at core.old.codec) (state_at core.new.codec)) }
-    ensures asked { OnSome result (KeepsAsked core.old.codec core.new.codec) }
+    ensures out { core.new.codec.out ≡ core.old.codec.out }
 {
     let turned = core.turn()?;
     Some((turned.place, turned.removed))

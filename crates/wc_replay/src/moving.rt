@@ -1,63 +1,59 @@
 // What callers and the order do to one codec among all, with the boxes and the references that it takes and lets go.
-ghost use Rattle.std.specs.Prelude.{◌≡◌, ◌<◌, Bool, IfOk, OnOk, None, false, is_some, length, slice_set, true};
+ghost use Rattle.std.specs.Prelude.{◌≡◌, ◌<◌, Bool, IfOk, OnOk, length, map, slice_set, true};
 ghost use Rattle.codec_accounts.specs.Codec.{codec_at, codecs_after, slots_by, state_of, next_by, IsGivable};
-ghost use Rattle.codec_model.specs.declared.entry.HeldSound.{HeldSound};
-ghost use Rattle.codec_model.specs.Held.{held_in};
-ghost use Rattle.codec_model.specs.Replay.{entry_of, encode_entry, refused_encode, removal_entry, call_error, encode_error, removal_error};
+ghost use Rattle.codec_model.specs.declared.entry.Entry.TheVariants as entry;
+ghost use Rattle.codec_model.specs.Held.{held_in, in_order, adds_held, lets_go};
+ghost use Rattle.codec_model.specs.Replay.{may_call, call_error, encode_error};
 ghost use Rattle.codec_model.specs.Shown.{exception_of};
 ghost use Rattle.media_variables.specs.Held.{AreApart, pair_of};
-ghost use Rattle.trace_text.specs.Follow.{item_entry, media_by};
-ghost use Rattle.wc_replay.specs.Desk.{more, codec_by, registry_by, media_by_option, Received};
+ghost use Rattle.trace_text.specs.Follow.{item_entry};
+ghost use Rattle.wc_replay.specs.Desk.{codec_by, registry_by, media_by_option, media_without};
 
 use crate::desk::{Answer, Desk};
-use codec_core::Taken;
-use codec_model::{Call, Removal};
+use codec_model::Call;
 use coder_api::Coder;
 use media_variables::CallerMedia;
 use script_types::OrderItem;
 use slot_registry::Slots;
 use std::alloc::Global;
-use wc_base::{DomError, NoMemory, Samples, Who};
+use wc_base::{DomError, NoMemory, Who};
 use wc_pool::MediaRef;
 
-/// A configure, decode or flush on the codec with this number.
+/// A call of the codec with this number, with the reference that it brings, if it brings one.
 pub(crate) fn call_at<C: Coder>(
     desks: &mut Vec<Desk<C>>,
+    slots: &mut Slots<C>,
+    media: &mut CallerMedia,
     codec: u32,
     who: Who,
     call: Call,
+    held: Option<MediaRef>,
 ) -> Result<Answer, NoMemory>
-    requires { codec < length desks.old.items }
+    requires codec { codec < length desks.old.items }
+    requires may { may_call call (state_of (codec_at codec desks.old.items)).control ≡ true }
+    requires held { map pair_of (in_order held) ≡ adds_held (entry.Call who call) }
+    requires givable { IsGivable slots.old.history
+        (next_by codec (codec_at codec desks.old.items))
+        (codec_at codec desks.old.items).holding.box }
+    requires lent { AreApart media.old.pool media.old.variables
+        (lets_go (entry.Call who call) (state_of (codec_at codec desks.old.items))) }
     ensures made { OnOk result
         (desks.new.items
-        ≡ slice_set desks.old.items codec
-        (more (entry_of who call) (codec_at codec desks.old.items))) }
+        ≡ codecs_after codec (entry.Call who call) slots.old desks.old.items) }
+    ensures slots { OnOk result
+        (slots.new
+        ≡ slots_by codec (entry.Call who call) slots.old (codec_at codec desks.old.items)) }
+    ensures media { let d = codec_at codec desks.old.items in
+        OnOk result
+        (media.new
+        ≡ media_without (next_by codec d)
+        (lets_go (entry.Call who call) (state_of d)) media.old) }
     ensures place { IfOk result (λ a. a.place ≡ length (codec_at codec desks.old.items).history) }
-    ensures error { IfOk result
-        (λ a. a.error
-        ≡ exception_of call (call_error call (state_of (codec_at codec desks.old.items)).control)) }
+    ensures error { let control = (state_of (codec_at codec desks.old.items)).control in
+        IfOk result (λ a. a.error ≡ exception_of call (call_error call control)) }
 {
     match desks.get_mut(codec as usize) {
-        Some(desk) => desk.call(who, call),
-        None => unreachable!(),
-    }
-}
-
-/// A take of a caller from the codec with this number.
-pub(crate) fn receive_at<C: Coder>(
-    desks: &mut Vec<Desk<C>>,
-    codec: u32,
-    who: Who,
-) -> Result<Option<Taken>, NoMemory>
-    requires { codec < length desks.old.items }
-    ensures taken { IfOk result
-        (Received who (codec_at codec desks.old.items) (codec_at codec desks.new.items)) }
-    ensures others { OnOk result
-        (desks.new.items
-        ≡ slice_set desks.old.items codec (codec_at codec desks.new.items)) }
-{
-    match desks.get_mut(codec as usize) {
-        Some(desk) => desk.receive(who),
+        Some(desk) => desk.call(codec, slots, media, who, call, held),
         None => unreachable!(),
     }
 }
@@ -92,89 +88,6 @@ pub(crate) fn refusal_at<C: Coder>(
     ensures { result ≡ encode_error detached (state_of (codec_at codec desks.now)).control }
 {
     desk_at(desks, codec).encode_refusal(detached)
-}
-
-/// An encode that the codec with this number refuses.
-pub(crate) fn refuse_at<C: Coder>(
-    desks: &mut Vec<Desk<C>>,
-    codec: u32,
-    who: Who,
-    detached: bool,
-) -> Result<Answer, NoMemory>
-    requires codec { codec < length desks.old.items }
-    requires refused { let control = (state_of (codec_at codec desks.old.items)).control in
-        is_some (encode_error detached control) ≡ true }
-    ensures made { OnOk result
-        (desks.new.items
-        ≡ slice_set desks.old.items codec
-        (more (refused_encode who detached) (codec_at codec desks.old.items))) }
-    ensures place { IfOk result (λ a. a.place ≡ length (codec_at codec desks.old.items).history) }
-    ensures error { let control = (state_of (codec_at codec desks.old.items)).control in
-        IfOk result (λ a. a.error ≡ encode_error detached control) }
-{
-    match desks.get_mut(codec as usize) {
-        Some(desk) => desk.refuse_encode(who, detached),
-        None => unreachable!(),
-    }
-}
-
-/// An encode that the codec with this number accepts, of samples with the reference that it holds from now on.
-pub(crate) fn encode_at<C: Coder>(
-    desks: &mut Vec<Desk<C>>,
-    codec: u32,
-    who: Who,
-    samples: Samples,
-    held: MediaRef,
-) -> Result<Answer, NoMemory>
-    requires codec { codec < length desks.old.items }
-    requires accepted { let control = (state_of (codec_at codec desks.old.items)).control in
-        encode_error false control ≡ None }
-    ensures made { let sound : HeldSound = record { samples = samples; pair = pair_of held } in
-        OnOk result
-        (desks.new.items
-        ≡ slice_set desks.old.items codec
-        (more (encode_entry who sound) (codec_at codec desks.old.items))) }
-    ensures place { IfOk result (λ a. a.place ≡ length (codec_at codec desks.old.items).history) }
-    ensures error { IfOk result (λ a. a.error ≡ None) }
-{
-    match desks.get_mut(codec as usize) {
-        Some(desk) => desk.encode(who, samples, held),
-        None => unreachable!(),
-    }
-}
-
-/// A reset or close of the codec with this number.
-pub(crate) fn remove_at<C: Coder>(
-    desks: &mut Vec<Desk<C>>,
-    slots: &mut Slots<C>,
-    media: &mut CallerMedia,
-    codec: u32,
-    who: Who,
-    removal: Removal,
-) -> Result<Answer, NoMemory>
-    requires codec { codec < length desks.old.items }
-    requires givable { IsGivable slots.old.history
-        (next_by codec (codec_at codec desks.old.items))
-        (codec_at codec desks.old.items).holding.box }
-    requires lent { AreApart media.old.pool media.old.variables
-        (held_in (state_of (codec_at codec desks.old.items))) }
-    ensures made { OnOk result
-        (desks.new.items
-        ≡ codecs_after codec (removal_entry who removal) slots.old desks.old.items) }
-    ensures slots { OnOk result
-        (slots.new
-        ≡ slots_by codec (removal_entry who removal) slots.old (codec_at codec desks.old.items)) }
-    ensures media { OnOk result
-        (media.new
-        ≡ media_by codec (removal_entry who removal) (codec_at codec desks.old.items) media.old) }
-    ensures place { IfOk result (λ a. a.place ≡ length (codec_at codec desks.old.items).history) }
-    ensures error { IfOk result
-        (λ a. a.error ≡ removal_error (state_of (codec_at codec desks.old.items)).control) }
-{
-    match desks.get_mut(codec as usize) {
-        Some(desk) => desk.remove(codec, slots, media, who, removal),
-        None => unreachable!(),
-    }
 }
 
 /// An item of the order that names the codec with this number.

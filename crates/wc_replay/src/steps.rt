@@ -1,28 +1,29 @@
 // The steps of the callers, and the items of the order.
-ghost use Rattle.std.specs.Prelude.{◌≡◌, ◌≤◌, ◌<◌, Bool, false, true, Some, OnOk, IfOk, is_some, length, slice_get, option_copied, None};
+ghost use Rattle.std.specs.Prelude.{◌≡◌, ◌≤◌, ◌<◌, Bool, [], false, true, Some, OnOk, IfOk, is_some, length, slice_get, option_copied, option_map, None};
 ghost use Rattle.codec_accounts.specs.Codec.{codec_at, state_of, AreGivable};
 ghost use Rattle.codec_accounts.specs.Owed.{at};
-ghost use Rattle.codec_model.specs.Replay.{encode_error, refused_as};
+ghost use Rattle.codec_model.specs.declared.entry.Entry.TheVariants as entry;
+ghost use Rattle.codec_model.specs.declared.entry.Call.TheVariants.{Decode, Encode};
+ghost use Rattle.codec_model.specs.Held.{adds_held};
+ghost use Rattle.codec_model.specs.Replay.{may_call, encode_error, refused_as};
 ghost use Rattle.media_accounts.specs.Accounts.{AreLent};
-ghost use Rattle.media_variables.specs.Held.{sound_found};
+ghost use Rattle.media_variables.specs.Held.{sound_found, pair_of as the_pair_of};
 ghost use Rattle.media_variables.specs.declared.lending.SoundFound.TheVariants as found;
 ghost use Rattle.order_laws.specs.Course.{held_by_codecs};
 ghost use Rattle.script_types.specs.Names.{taken_from};
 ghost use Rattle.script_types.specs.declared.steps.Step.TheVariants as a_step;
 ghost use Rattle.media_variables.specs.Variables.{Brought, media_came, sound_at, taken_came, variables_of};
-ghost use Rattle.trace_text.specs.Follow.{with_result, after_move, advance, chunk_for, item_entry, call_move, decode_move, encode_move, hand_move, handle_move, media_move, take_move, found_at, removal_move, look_of_flush, look_of_state, promise_after, step_move, follow_item, steps_of, source_error};
+ghost use Rattle.trace_text.specs.Follow.{Ask, with_result, after_move, advance, chunk_for, item_entry, call_move, encode_of, handle_move, media_move, take_move, found_at, look_of_flush, look_of_state, promise_after, step_move, follow_item, steps_of, source_error};
 ghost use Rattle.report_text.specs.declared.result.StepResult.TheVariants as came;
 ghost use Rattle.script_types.specs.declared.script.OrderItem.TheVariants as item;
-ghost use Rattle.wc_replay.specs.Player.{IsInRange, NamesInRange, IsPlayable, call_in, encode_of};
+ghost use Rattle.wc_replay.specs.Desk.{IsNext};
+ghost use Rattle.wc_replay.specs.Player.{IsInRange, NamesInRange, IsPlayable, call_in, encoded_by};
 
 use crate::copied::copied_chunk;
-use crate::desk::{Answer, Desk};
-use crate::moving::{
-    call_at, desk_at, encode_at, place_at, receive_at, refusal_at, refuse_at, remove_at, take_at,
-};
+use crate::desk::{Answer, Desk, Output};
+use crate::moving::{call_at, desk_at, place_at, refusal_at, take_at};
 use crate::results::{Results, made_by, note, result_of};
-use codec_core::Taken;
-use codec_model::{Call, PromiseState, Removal};
+use codec_model::{Call, Handed, HeldSound, Pair, PromiseState};
 use coder_api::Coder;
 use media_variables::{CallerMedia, SoundFound};
 use script_types::{ChunkSource, MediaStep, OrderItem, ScriptData, Step};
@@ -32,6 +33,7 @@ use std::marker::Model;
 use trace_text::{StepResult, find_chunk, steps_of};
 use wc_base::{By, DomError, List, NoMemory, Who};
 use wc_chunk::Chunk;
+use wc_pool::MediaRef;
 
 /// The codecs, each caller's results so far, the callers' media, and the registry of the boxes.
 #[derive(Drop)]
@@ -134,14 +136,24 @@ fn state_result<C: Coder>(desks: &[Desk<C>], codec: u32) -> StepResult
     }
 }
 
-/// The result of a take that found this output.
-fn unit_result(codec: u32, taken: &Taken) -> StepResult
-    ensures { result ≡ came.Unit codec taken.now.place taken.now.number }
+/// The result of a take of this output, whose entry stands at this place.
+fn unit_result(codec: u32, place: u64, number: u64) -> StepResult
+    ensures { result ≡ came.Unit codec place number }
 {
     StepResult::Unit {
         codec,
-        place: taken.place,
-        number: taken.number,
+        place,
+        number,
+    }
+}
+
+/// The numbers of a reference.
+fn pair_of(held: &MediaRef) -> Pair
+    ensures { result ≡ the_pair_of held.now }
+{
+    Pair {
+        resource: held.resource(),
+        reference: held.number(),
     }
 }
 
@@ -165,8 +177,8 @@ fn taken_from(step: &MediaStep) -> Option<u32>
 }
 
 /// The codec and the variable of a step that encodes, if it is one.
-fn encode_of(step: &MediaStep) -> Option<(u32, u32)>
-    ensures { result ≡ encode_of step.now }
+fn encoded_by(step: &MediaStep) -> Option<(u32, u32)>
+    ensures { result ≡ encoded_by step.now }
 {
     match step {
         MediaStep::Encode { on, content } => Some((*on, content.step)),
@@ -181,15 +193,25 @@ fn step_at(steps: &[Step], number: usize) -> Option<&Step>
 }
 
 impl<C: Coder> Player<C> {
-    /// A configure, decode or flush of a caller.
+    /// A call of a caller that brings no reference.
     fn call(&mut self, who: Who, codec: u32, call: Call) -> Result<(), NoMemory>
-        requires { codec < length self.old.codecs }
-        ensures { OnOk result
-            (self.new
-            ≡ after_move (call_move who codec call (codec_at codec self.old.codecs)) self.old) }
+        requires codec { codec < length self.old.codecs }
+        requires may { let control = (state_of (codec_at codec self.old.codecs)).control in
+            may_call call control ≡ true }
+        requires none { adds_held (entry.Call who call) ≡ [] }
+        requires givable { AreGivable self.old.codecs self.old.slots.history }
+        requires lent { AreLent self.old.media.pool self.old.media.variables
+            (held_by_codecs self.old.codecs) }
+        ensures { OnOk result (self.new ≡ after_move (Ask who codec call) self.old) }
     {
-        let answer = call_at(&mut self.desks, codec, who, call)?;
-        note(&mut self.callers, who.caller, call_result(codec, answer))
+        let Player {
+            desks,
+            callers,
+            media,
+            slots,
+        } = self;
+        let answer = call_at(desks, slots, media, codec, who, call, None)?;
+        note(callers, who.caller, call_result(codec, answer))
     }
 
     /// A step that calls no codec.
@@ -218,10 +240,12 @@ impl<C: Coder> Player<C> {
 
     /// A decode of the chunk that the variable holds, unless it is absent.
     fn decode(&mut self, who: Who, codec: u32, chunk: Option<Chunk>) -> Result<(), NoMemory>
-        requires { codec < length self.old.codecs }
+        requires codec { codec < length self.old.codecs }
+        requires givable { AreGivable self.old.codecs self.old.slots.history }
+        requires lent { AreLent self.old.media.pool self.old.media.variables
+            (held_by_codecs self.old.codecs) }
         ensures { OnOk result
-            (self.new
-            ≡ after_move (decode_move who codec chunk (codec_at codec self.old.codecs)) self.old) }
+            (self.new ≡ after_move (call_move who codec (option_map Decode chunk)) self.old) }
     {
         match chunk {
             Some(chunk) => self.call(who, codec, Call::Decode(chunk)),
@@ -254,38 +278,18 @@ impl<C: Coder> Player<C> {
         self.answer(who, came)
     }
 
-    /// A reset or close of a caller.
-    fn remove(&mut self, who: Who, codec: u32, removal: Removal) -> Result<(), NoMemory>
-        requires codec { codec < length self.old.codecs }
-        requires givable { AreGivable self.old.codecs self.old.slots.history }
-        requires lent { AreLent self.old.media.pool self.old.media.variables
-            (held_by_codecs self.old.codecs) }
-        ensures { OnOk result
-            (self.new
-            ≡ after_move
-            (removal_move who codec removal (codec_at codec self.old.codecs)) self.old) }
-    {
-        let Player {
-            desks,
-            callers,
-            media,
-            slots,
-        } = self;
-        let answer = remove_at(desks, slots, media, codec, who, removal)?;
-        note(callers, who.caller, call_result(codec, answer))
-    }
-
     /// An encode that the codec refuses, of data that is detached or is not.
     fn refuse(&mut self, who: Who, codec: u32, detached: bool) -> Result<(), NoMemory>
         requires codec { codec < length self.old.codecs }
         requires refused { let control = (state_of (codec_at codec self.old.codecs)).control in
             is_some (encode_error detached control) ≡ true }
-        ensures { let d = codec_at codec self.old.codecs in
-            OnOk result
-            (self.new ≡ after_move (hand_move who codec (refused_as detached) d) self.old) }
+        requires givable { AreGivable self.old.codecs self.old.slots.history }
+        requires lent { AreLent self.old.media.pool self.old.media.variables
+            (held_by_codecs self.old.codecs) }
+        ensures { OnOk result
+            (self.new ≡ after_move (Ask who codec (Encode (refused_as detached))) self.old) }
     {
-        let answer = refuse_at(&mut self.desks, codec, who, detached)?;
-        note(&mut self.callers, who.caller, call_result(codec, answer))
+        self.call(who, codec, Call::Encode(Handed::of_refused(detached)))
     }
 
     /// An encode that the codec accepts: it holds one reference more to the variable's audio data from now on.
@@ -295,16 +299,27 @@ impl<C: Coder> Player<C> {
             encode_error false control ≡ None }
         requires open { let vs = variables_of who.caller self.old.media.variables in
             sound_found (sound_at vs content) ≡ found.Open }
+        requires givable { AreGivable self.old.codecs self.old.slots.history }
         ensures { let d = codec_at codec self.old.codecs in
             let x = sound_at (variables_of who.caller self.old.media.variables) content in
             OnOk result
-            (self.new ≡ after_move (encode_move who codec self.old.media.pool x d) self.old) }
+            (self.new
+            ≡ after_move
+            (call_move who codec (option_map (encode_of self.old.media.pool d) x)) self.old) }
     {
         let place = place_at(&self.desks, codec);
         let cause = By::Codec { codec, place };
         let (samples, held) = self.media.lend(cause, who.caller, content)?;
-        let answer = encode_at(&mut self.desks, codec, who, samples, held)?;
-        note(&mut self.callers, who.caller, call_result(codec, answer))
+        let pair = pair_of(&held);
+        let call = Call::Encode(Handed::Cloned(HeldSound { samples, pair }));
+        let Player {
+            desks,
+            callers,
+            media,
+            slots,
+        } = self;
+        let answer = call_at(desks, slots, media, codec, who, call, Some(held))?;
+        note(callers, who.caller, call_result(codec, answer))
     }
 
     /// An encode of audio data that is not detached.
@@ -312,10 +327,15 @@ impl<C: Coder> Player<C> {
         requires codec { codec < length self.old.codecs }
         requires open { let vs = variables_of who.caller self.old.media.variables in
             sound_found (sound_at vs content) ≡ found.Open }
+        requires givable { AreGivable self.old.codecs self.old.slots.history }
+        requires lent { AreLent self.old.media.pool self.old.media.variables
+            (held_by_codecs self.old.codecs) }
         ensures { let d = codec_at codec self.old.codecs in
             let x = sound_at (variables_of who.caller self.old.media.variables) content in
             OnOk result
-            (self.new ≡ after_move (encode_move who codec self.old.media.pool x d) self.old) }
+            (self.new
+            ≡ after_move
+            (call_move who codec (option_map (encode_of self.old.media.pool d) x)) self.old) }
     {
         match refusal_at(&self.desks, codec, false) {
             Some(_) => self.refuse(who, codec, false),
@@ -325,11 +345,16 @@ impl<C: Coder> Player<C> {
 
     /// An encode of the audio data that the variable holds, unless it is absent.
     fn encode(&mut self, who: Who, codec: u32, content: u32) -> Result<(), NoMemory>
-        requires { codec < length self.old.codecs }
+        requires codec { codec < length self.old.codecs }
+        requires givable { AreGivable self.old.codecs self.old.slots.history }
+        requires lent { AreLent self.old.media.pool self.old.media.variables
+            (held_by_codecs self.old.codecs) }
         ensures { let d = codec_at codec self.old.codecs in
             let x = sound_at (variables_of who.caller self.old.media.variables) content in
             OnOk result
-            (self.new ≡ after_move (encode_move who codec self.old.media.pool x d) self.old) }
+            (self.new
+            ≡ after_move
+            (call_move who codec (option_map (encode_of self.old.media.pool d) x)) self.old) }
     {
         match self.media.find_sound(who.caller, content) {
             SoundFound::Absent => self.answer(who, StepResult::Absent),
@@ -362,23 +387,50 @@ impl<C: Coder> Player<C> {
         }
     }
 
-    /// A take of a caller: the next output of the codec becomes what the step's variable holds, if one is left.
-    fn receive(&mut self, who: Who, codec: u32) -> Result<(), NoMemory>
+    /// A take of a caller: this output, the codec's next one, becomes what the step's variable holds.
+    fn take_output(&mut self, who: Who, codec: u32, output: Output) -> Result<(), NoMemory>
         requires codec { codec < length self.old.codecs }
         requires caller { who.caller < length self.old.media.variables }
+        requires next { IsNext (codec_at codec self.old.codecs) (Some output) }
+        requires givable { AreGivable self.old.codecs self.old.slots.history }
+        requires lent { AreLent self.old.media.pool self.old.media.variables
+            (held_by_codecs self.old.codecs) }
         ensures { let d = codec_at codec self.old.codecs in
             let came = taken_came self.old.media.pool who.step (found_at codec d)
             (variables_of who.caller self.old.media.variables) in
             OnOk result (self.new ≡ after_move (take_move who codec d came) self.old) }
     {
-        let came = match receive_at(&mut self.desks, codec, who)? {
-            Some(taken) => {
-                let answer = unit_result(codec, &taken);
-                self.media.take(who, taken.unit, answer)?
+        let Player {
+            desks,
+            callers,
+            media,
+            slots,
+        } = self;
+        let Output { number, unit } = output;
+        let answer = call_at(desks, slots, media, codec, who, Call::Take(number), None)?;
+        let came = media.take(who, unit, unit_result(codec, answer.place, number))?;
+        note(callers, who.caller, came)
+    }
+
+    /// A take of a caller: the next output of the codec becomes what the step's variable holds, if one is left.
+    fn receive(&mut self, who: Who, codec: u32) -> Result<(), NoMemory>
+        requires codec { codec < length self.old.codecs }
+        requires caller { who.caller < length self.old.media.variables }
+        requires givable { AreGivable self.old.codecs self.old.slots.history }
+        requires lent { AreLent self.old.media.pool self.old.media.variables
+            (held_by_codecs self.old.codecs) }
+        ensures { let d = codec_at codec self.old.codecs in
+            let came = taken_came self.old.media.pool who.step (found_at codec d)
+            (variables_of who.caller self.old.media.variables) in
+            OnOk result (self.new ≡ after_move (take_move who codec d came) self.old) }
+    {
+        match desk_at(&self.desks, codec).next_output()? {
+            Some(output) => self.take_output(who, codec, output),
+            None => {
+                let came = no_unit(&self.desks, codec);
+                self.answer(who, came)
             }
-            None => no_unit(&self.desks, codec),
-        };
-        note(&mut self.callers, who.caller, came)
+        }
     }
 
     /// A step of a caller on media: a take of a codec's output, an encode, or one that no codec has a part in.
@@ -394,13 +446,16 @@ impl<C: Coder> Player<C> {
         requires steps { steps_of script.now who.caller ≡ steps.now }
         requires range { NamesInRange (length self.old.codecs) (a_step.Media step.now) }
         requires caller { who.caller < length self.old.media.variables }
+        requires givable { AreGivable self.old.codecs self.old.slots.history }
+        requires lent { AreLent self.old.media.pool self.old.media.variables
+            (held_by_codecs self.old.codecs) }
         ensures { OnOk result
             (self.new
             ≡ after_move (media_move script.now media.now who step.now self.old) self.old) }
     {
         match taken_from(step) {
             Some(codec) => self.receive(who, codec),
-            None => match encode_of(step) {
+            None => match encoded_by(step) {
                 Some((codec, content)) => self.encode(who, codec, content),
                 None => {
                     let chunk = copied_chunk(media, steps, step)?;
@@ -443,8 +498,8 @@ impl<C: Coder> Player<C> {
             Step::Flush { on, bind: _ } => self.call(who, *on, Call::Flush),
             Step::Poll { promise } => self.look(who, promise.step),
             Step::Await { promise } => self.look(who, promise.step),
-            Step::Reset { on } => self.remove(who, *on, Removal::Reset),
-            Step::Close { on } => self.remove(who, *on, Removal::Close),
+            Step::Reset { on } => self.call(who, *on, Call::Reset),
+            Step::Close { on } => self.call(who, *on, Call::Close),
             Step::State { on } => self.look_at_state(who, *on),
             Step::Media(handled) => self.on_media(alloc, media, steps, who, handled, script),
         }

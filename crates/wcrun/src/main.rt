@@ -2,6 +2,7 @@
 #![tactic(auto)]
 
 mod calls;
+mod codecs;
 mod command;
 #[cfg(test)]
 mod encode_rows;
@@ -11,6 +12,8 @@ mod faults;
 mod flac_encode_rows;
 #[cfg(test)]
 mod flac_rows;
+mod help;
+mod hints;
 #[cfg(test)]
 mod media_rows;
 mod prepare;
@@ -27,6 +30,7 @@ mod video_rows;
 
 pub use calls::top;
 use calls::want_memory;
+use codecs::all_codecs;
 use coder_api::CoderBox;
 use flac_decode::FlacDecoder;
 use flac_encode::FlacEncoder;
@@ -44,21 +48,6 @@ use wc_config::{CodecId, Role};
 
 // How many boxes of each coder there are.
 const BOXES: u32 = 8;
-
-// All codecs.
-const CODECS: [CodecId; 11] = [
-    CodecId::PcmU8,
-    CodecId::PcmS16,
-    CodecId::PcmS24,
-    CodecId::PcmS32,
-    CodecId::Alaw,
-    CodecId::Ulaw,
-    CodecId::Flac,
-    CodecId::RawI420,
-    CodecId::RawI422,
-    CodecId::RawI444,
-    CodecId::RawNv12,
-];
 
 // A kind of coder.
 #[derive(Clone, Copy)]
@@ -122,8 +111,8 @@ fn carry_out<S: Sink>(rt: &HostRuntime, words: &[String], sink: &mut S) -> u8 {
     let mut coders = Vec::new(alloc);
     for role in [Role::Decode, Role::Encode] {
         for _ in 0..BOXES {
-            for codec in CODECS {
-                let coder = match kind_of(role, codec) {
+            for codec in all_codecs() {
+                let coder = match kind_of(role, *codec) {
                     Some(CoderKind::Samples(coding)) => {
                         match Box::new(alloc, SampleCoder::new(role, coding)) {
                             Ok(coder) => CoderBox::of(coder),
@@ -159,7 +148,11 @@ fn carry_out<S: Sink>(rt: &HostRuntime, words: &[String], sink: &mut S) -> u8 {
 fn main(rt: HostRuntime) -> ExitCode {
     let mut sink = Output::new(io::writer(&rt));
     let status = match command_words(&rt) {
-        Ok(words) => carry_out(&rt, &words, &mut sink),
+        Ok(words) => {
+            let status = carry_out(&rt, &words, &mut sink);
+            hints::tell(&rt, rt.alloc(), &words, status);
+            status
+        }
         Err(_) => want_memory(&mut sink),
     };
     ExitCode::from(status)

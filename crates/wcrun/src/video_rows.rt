@@ -297,6 +297,79 @@ held 0
 end
 ";
 
+// Pictures of 2 by 2 pixels: a chunk that is called a key chunk and begins with 1 is refused; a key chunk and what is added to
+// it are decoded. A first key chunk after the flush that is too short is taken, and closes the codec; the first picture is
+// taken after that.
+const SQUARE: &str =
+    r#"{"codecs":[{"name":"v","kind":"video-decoder"}],"callers":[{"name":"a","steps":[
+{"do":"configure","on":"v","config":{"codec":"x-raw-i420","codedWidth":2,"codedHeight":2}},
+{"do":"chunk","as":"c","init":{"type":"key","timestamp":0,"data":"01010101010101"}},
+{"do":"decode","on":"v","chunk":"c"},
+{"do":"chunk","as":"k","init":{"type":"key","timestamp":0,"data":"00010203040506"}},
+{"do":"decode","on":"v","chunk":"k"},
+{"do":"chunk","as":"e","init":{"type":"delta","timestamp":40000,"data":"01010101010101"}},
+{"do":"decode","on":"v","chunk":"e"},
+{"do":"flush","on":"v","as":"p"},
+{"do":"chunk","as":"s","init":{"type":"key","timestamp":0,"data":"0001"}},
+{"do":"decode","on":"v","chunk":"s"},
+{"do":"take","on":"v","as":"f"}]}],
+"order":["a","a","a","a","a","a","a","a","a","a",{"start":"v"},{"done":"v","at":1},{"turn":"v"},{"turn":"v"},
+{"start":"v"},{"done":"v","at":2},{"turn":"v"},{"turn":"v"},
+{"start":"v"},{"done":"v","at":3},{"turn":"v"},{"start":"v"},{"done":"v","at":4},{"turn":"v"},
+{"start":"v"},{"done":"v","at":5},{"turn":"v"},"a"]}"#;
+
+const SQUARE_REPORT: &str = "wcrun report 1
+caller a
+0 v.0 ok
+1 ok
+2 v.1 DataError
+3 ok
+4 v.2 ok
+5 ok
+6 v.3 ok
+7 v.4 ok
+8 ok
+9 v.5 ok
+10 v.23 unit 0
+codec v video-decoder 4
+0 a.0 configure = ok
+1 a.2 decode = DataError
+2 a.4 decode = ok
+3 a.6 decode = ok
+4 a.7 flush = ok
+5 a.9 decode = ok
+6 start 0.0
+7 done 0.0 1 ran 0
+8 turn unblock
+9 turn process
+10 start 0.1
+11 done 0.1 2 ran 1
+12 turn dequeue
+  dequeue
+13 turn output
+  output video I420 2 2 0 - 010203040506
+14 start 0.2
+15 done 0.2 3 ran 1
+16 turn output
+  output video I420 2 2 40000 - 020304050607
+17 start 0.3
+18 done 0.3 4 ran 0
+19 turn flushed
+  resolve 4
+20 start 0.4
+21 done 0.4 5 refused
+22 turn close EncodingError
+  error EncodingError
+23 a.10 take = 0
+pool
+0 a.10 make 0 0
+slots
+0 v.6 acquire decode:x-raw-i420 0
+1 v.22 give decode:x-raw-i420 0
+held 1
+end
+";
+
 // A picture of each format, of odd sizes: halves are rounded up, so that 3 by 3 pixels have 9, 4 and 4 bytes in I420 and 9, 6
 // and 6 in I422, 3 by 1 have 3 times 3 in I444, and 1 by 3 have 3 and 4 in NV12.
 const EACH_FORMAT: &str =
@@ -490,6 +563,7 @@ fn key_chunks_are_wanted_and_looked_at(rt: HostRuntime) -> Result<(), Fail> {
         (SHORT_KEY, 0, REFUSED_REPORT),
         (LONG_KEY, 0, REFUSED_REPORT),
         (OTHER_FIRST_BYTE, 0, REFUSED_REPORT),
+        (SQUARE, 0, SQUARE_REPORT),
     ];
     each_ends(&rt, rt.alloc(), &rows)
 }

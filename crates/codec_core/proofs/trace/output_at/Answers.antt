@@ -13,7 +13,7 @@ returns-in-Some c =
     let found = c.in-Some.ensures.lookup in
     let here : slice_get xs c.args.entry ≡ Some x = slice_get_read xs (length xs) c.args.entry x refl found.3.0 found.1 in
     let there : slice_get (map shown_of xs) c.args.entry ≡ Some (shown_of x) = slice_get-map shown_of xs c.args.entry ∙ ap (option_map shown_of) here in
-    rw (front_at c.args.entry c.args.unit (map shown_of xs) (shown_of x) there (rw here at c.requires), ← c.outputs_of.ensures) c.copy_at.ensures
+    rw (front_at c.args.entry c.args.unit (map shown_of xs) (shown_of x) there (rw here at c.requires), ← c.outputs_of.ensures) c.unit_at.ensures
 
 pub returns-in-None : goal.returns-in-None
 returns-in-None c =

@@ -1,6 +1,6 @@
 use Rattle.std.proofs.Common.{ℤ, List, sym, subst}
-use Rattle.flac_blocks.specs.Modes.{AreChoices}
-use Rattle.flac_blocks.specs.declared.mode.ChannelMode.TheVariants.{Independent}
+use Rattle.flac_definitions.specs.Modes.{AreChoices}
+use Rattle.flac_definitions.specs.declared.mode.ChannelMode.TheVariants.{Independent}
 use Rattle.flac_blocks.proofs.Choices.{plain_mode}
 use Rattle.flac_blocks.proofs.choice.independent_block.Goals as goal
 

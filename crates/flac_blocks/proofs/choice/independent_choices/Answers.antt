@@ -1,7 +1,8 @@
 use Rattle.std.proofs.Common.{ℕ, ◌≡◌, ◌<◌, ◌+◌, List, [], ◌∷◌, ◌++◌, length, subst, sym, ap, arith, rules, ◌∙◌, length-append}
 use Rattle.std.specs.Prelude.{slice_index_or}
-use Rattle.flac_subframes.specs.declared.candidate.Choice.{Choice}
-use Rattle.flac_blocks.specs.Modes.{channel_of, IsBest}
+use Rattle.flac_definitions.specs.declared.candidate.Choice.{Choice}
+use Rattle.flac_definitions.specs.Modes.{channel_of}
+use Rattle.flac_blocks.specs.Search.{IsBest}
 use Rattle.flac_blocks.proofs.Choices.{choice_more, plain_choices}
 use Rattle.flac_blocks.proofs.choice.independent_choices.Goals as goal
 

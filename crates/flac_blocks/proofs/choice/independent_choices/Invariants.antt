@@ -1,7 +1,8 @@
 use Rattle.std.proofs.Common.{ℕ, ◌≡◌, ◌<◌, length}
 use Rattle.std.specs.Prelude.{slice_index_or}
-use Rattle.flac_subframes.specs.declared.candidate.Choice.{Choice}
-use Rattle.flac_blocks.specs.Modes.{channel_of, IsBest}
+use Rattle.flac_definitions.specs.declared.candidate.Choice.{Choice}
+use Rattle.flac_definitions.specs.Modes.{channel_of}
+use Rattle.flac_blocks.specs.Search.{IsBest}
 use Rattle.flac_blocks.proofs.choice.independent_choices.Given as goal
 
 abbrev pub invariant-loop-c : goal.invariant-loop-c

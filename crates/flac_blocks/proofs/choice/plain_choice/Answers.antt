@@ -1,6 +1,6 @@
 use Rattle.std.proofs.Common.{ℤ, List, subst}
 use Rattle.std.specs.Result.{IfOk}
-use Rattle.flac_blocks.specs.Modes.{IsBest}
+use Rattle.flac_blocks.specs.Search.{IsBest}
 use Rattle.flac_blocks.proofs.choice.plain_choice.Goals as goal
 
 pub returns : goal.returns

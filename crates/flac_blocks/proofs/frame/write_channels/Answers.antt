@@ -1,4 +1,4 @@
-use Rattle.flac_blocks.specs.Frames.{channel_spelled}
+use Rattle.flac_definitions.specs.FrameWriting.{channel_spelled}
 use Rattle.flac_blocks.proofs.Written.{part_more}
 use Rattle.flac_blocks.proofs.frame.write_channels.Goals as goal
 

@@ -1,5 +1,5 @@
 use Rattle.std.proofs.Common.{◌≡◌, ◌++◌}
-use Rattle.flac_blocks.specs.Frames.{channels_spelled}
+use Rattle.flac_definitions.specs.FrameWriting.{channels_spelled}
 use Rattle.flac_blocks.proofs.frame.write_channels.Given as goal
 
 abbrev pub invariant-loop-c : goal.invariant-loop-c

@@ -1,5 +1,5 @@
 use Rattle.std.proofs.Common.{sym, subst}
-use Rattle.flac_write.specs.Header.{IsWritable}
+use Rattle.flac_definitions.specs.HeaderWriting.{IsWritable}
 use Rattle.flac_blocks.specs.CodedLaws.{header_writable}
 use Rattle.flac_blocks.proofs.frame.write_frame.Goals as goal
 

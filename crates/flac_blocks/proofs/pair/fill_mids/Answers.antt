@@ -1,5 +1,5 @@
 use Rattle.std.proofs.Common.{arith}
-use Rattle.flac_blocks.specs.Modes.{mid_of}
+use Rattle.flac_definitions.specs.Modes.{mid_of}
 use Rattle.flac_blocks.specs.CodedLaws.{pairwise_filled}
 use Rattle.flac_blocks.proofs.pair.fill_mids.Goals as goal
 

@@ -1,6 +1,6 @@
 use Rattle.std.proofs.Common.{ℕ, ◌≡◌, ◌<◌, length}
-use Rattle.flac_subframes.specs.Fixed.{at}
-use Rattle.flac_blocks.specs.Modes.{side_of}
+use Rattle.flac_definitions.specs.FixedPredictors.{at}
+use Rattle.flac_definitions.specs.Modes.{side_of}
 use Rattle.flac_blocks.proofs.pair.fill_sides.Given as goal
 
 abbrev pub invariant-loop-i : goal.invariant-loop-i

@@ -1,6 +1,6 @@
 use Rattle.std.proofs.Common.{ℕ, ◌<◌}
-use Rattle.flac_subframes.specs.Fixed.{at}
-use Rattle.flac_subframes.specs.Spelling.{HasDepth}
+use Rattle.flac_definitions.specs.FixedPredictors.{at}
+use Rattle.flac_definitions.specs.SubframeWriting.{HasDepth}
 use Rattle.flac_blocks.proofs.sound.have_depth.Given as goal
 
 abbrev pub invariant-loop-sample : goal.invariant-loop-sample

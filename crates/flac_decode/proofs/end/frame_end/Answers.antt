@@ -12,8 +12,8 @@ found : (laws : FramesAreSpelled) (info : StreamInfo) (bytes front : List ℕ) (
 found laws info bytes front (Ok o) e h = subst (λ (x : Option ℕ). EndsAt info bytes x) (sym (h ∙ ap (λ (xs : List ℕ). end_of (frame_at info (start_of xs))) e)) (ends_once laws info bytes)
 found laws info bytes front (Err n) e h = tt
 
-pub end_in-requires-clause-few : goal.end_in-requires-clause-few
-end_in-requires-clause-few c = omega (arith, length-take most c.args.bytes.now, ap length c.front.ensures)
+pub end_in-requires : goal.end_in-requires
+end_in-requires c = omega (arith, length-take most c.args.bytes.now, ap length c.front.ensures)
 
 pub returns : goal.returns
 returns c = found c.frames_are_spelled.ensures c.args.info.now c.args.bytes.now c.front.result.now c.end_in.result c.front.ensures c.end_in.ensures

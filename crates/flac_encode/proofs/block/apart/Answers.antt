@@ -1,5 +1,5 @@
 use Rattle.std.proofs.Common.{ℤ, List, ◌++◌, sym, subst, ap, ◌∙◌}
-use Rattle.flac_subframes.specs.Spelling.{HaveDepth}
+use Rattle.flac_definitions.specs.SubframeWriting.{HaveDepth}
 use Rattle.codec_definitions.specs.FlacCode.{channel_apart}
 use Rattle.flac_encode.proofs.Filled.{one_more, fits_none}
 use Rattle.flac_encode.proofs.block.apart.Goals as goal

@@ -1,8 +1,8 @@
 use Rattle.std.proofs.Common.{length, ◌/◌, ◌≡◌, ◌∙◌, sym, subst, rules}
 use Rattle.flac_definitions.specs.Bits.{bits_in}
-use Rattle.flac_subframes.specs.Spelling.{HaveDepth}
-use Rattle.flac_blocks.specs.Modes.{IsBlock}
-use Rattle.flac_blocks.specs.declared.mode.BlockFormat.{BlockFormat}
+use Rattle.flac_definitions.specs.SubframeWriting.{HaveDepth}
+use Rattle.flac_definitions.specs.Modes.{IsBlock}
+use Rattle.flac_definitions.specs.declared.mode.BlockFormat.{BlockFormat}
 use Rattle.codec_definitions.specs.FlacCode.{apart, bytes_with}
 use Rattle.flac_encode.proofs.Filled.{block_stands, block_code}
 use Rattle.flac_encode.proofs.block.code_block.Goals as goal

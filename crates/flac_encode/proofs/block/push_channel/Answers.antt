@@ -1,6 +1,6 @@
 use Rattle.std.proofs.Common.{ℕ, rules, ◌≡◌, ◌+◌, ◌*◌, ◌++◌, ◌∷◌, [], sym, subst}
-use Rattle.flac_subframes.specs.Fixed.{at}
-use Rattle.flac_subframes.specs.Spelling.{HasDepth}
+use Rattle.flac_definitions.specs.FixedPredictors.{at}
+use Rattle.flac_definitions.specs.SubframeWriting.{HasDepth}
 use Rattle.flac_encode.proofs.Counts.{more_units}
 use Rattle.flac_encode.proofs.Filled.{fits_more}
 use Rattle.flac_encode.proofs.block.push_channel.Goals as goal

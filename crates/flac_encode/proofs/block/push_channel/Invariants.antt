@@ -1,7 +1,7 @@
 use Rattle.std.proofs.Common.{◌≡◌, ◌+◌, ◌*◌, ◌++◌, map}
 use Rattle.std.specs.List.{range_with_len}
-use Rattle.flac_subframes.specs.Fixed.{at}
-use Rattle.flac_subframes.specs.Spelling.{HaveDepth}
+use Rattle.flac_definitions.specs.FixedPredictors.{at}
+use Rattle.flac_definitions.specs.SubframeWriting.{HaveDepth}
 use Rattle.flac_encode.proofs.block.push_channel.Given as goal
 
 abbrev pub invariant-loop-i : goal.invariant-loop-i

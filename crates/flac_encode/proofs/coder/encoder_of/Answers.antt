@@ -1,7 +1,7 @@
 use Rattle.std.proofs.Common.{arith, subst, sym}
 use Rattle.std.proofs.Math.Nat.{zero-mod}
 use Rattle.wc_config.specs.declared.config.AudioEncoderConfig.{AudioEncoderConfig}
-use Rattle.flac_subframes.specs.Spelling.{HaveDepth}
+use Rattle.flac_definitions.specs.SubframeWriting.{HaveDepth}
 use Rattle.flac_encode.specs.Steps.{IsRanged}
 use Rattle.flac_encode.proofs.Filled.{fits_none}
 use Rattle.flac_encode.proofs.Served.{served_range}

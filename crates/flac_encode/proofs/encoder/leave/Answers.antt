@@ -1,5 +1,5 @@
 use Rattle.std.proofs.Common.{rules, ◌≡◌, ◌+◌, ◌*◌, ◌/◌, drop, length, sym, subst}
-use Rattle.flac_subframes.specs.Spelling.{HaveDepth}
+use Rattle.flac_definitions.specs.SubframeWriting.{HaveDepth}
 use Rattle.flac_blocks.specs.CodedLaws.{drop_fits}
 use Rattle.codec_definitions.specs.FlacCode.{block_samples}
 use Rattle.flac_encode.proofs.Counts.{left_ready}

@@ -1,6 +1,6 @@
 use Rattle.std.proofs.Common.{◌≡◌, ◌++◌, map}
 use Rattle.std.specs.List.{range_with_len}
-use Rattle.flac_subframes.specs.Spelling.{HaveDepth}
+use Rattle.flac_definitions.specs.SubframeWriting.{HaveDepth}
 use Rattle.codec_definitions.specs.FlacEncoder.{value_at}
 use Rattle.flac_encode.proofs.values.push_frame.Given as goal
 

@@ -1,6 +1,6 @@
 use Rattle.std.proofs.Common.{◌≡◌, ◌++◌, map}
 use Rattle.std.specs.List.{range_with_len}
-use Rattle.flac_subframes.specs.Spelling.{HaveDepth}
+use Rattle.flac_definitions.specs.SubframeWriting.{HaveDepth}
 use Rattle.flac_encode.specs.Runs.{run_value}
 use Rattle.flac_encode.proofs.values.push_run.Given as goal
 

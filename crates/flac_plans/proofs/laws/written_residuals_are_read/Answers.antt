@@ -1,6 +1,6 @@
 use Rattle.std.proofs.Common.{map}
 use Rattle.flac_definitions.specs.ResidualSpelling.{folded_value}
-use Rattle.flac_plans.specs.Spelling.{residual_bits}
+use Rattle.flac_definitions.specs.ResidualWriting.{residual_bits}
 use Rattle.flac_plans.proofs.ResidualLaws.{residual_spelled}
 use Rattle.flac_plans.proofs.laws.written_residuals_are_read.Goals as goal
 

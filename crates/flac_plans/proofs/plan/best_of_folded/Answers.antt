@@ -1,6 +1,6 @@
 use Rattle.std.proofs.Common.{ℕ, ap, subst, ◌∙◌}
 use Rattle.std.specs.Result.{IfOk}
-use Rattle.flac_plans.specs.Plans.{best_partition, IsPlan}
+use Rattle.flac_definitions.specs.Plans.{best_partition, IsPlan}
 use Rattle.flac_plans.specs.FitLaws.{partition_cut}
 use Rattle.flac_plans.proofs.plan.best_of_folded.Goals as goal
 

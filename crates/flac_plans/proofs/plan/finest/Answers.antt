@@ -1,5 +1,5 @@
 use Rattle.std.proofs.Common.{ap, sym, ◌∙◌, ◌≡◌, arith, rules, false, true}
-use Rattle.flac_plans.specs.Plans.{finest, fits}
+use Rattle.flac_definitions.specs.Plans.{finest, fits}
 use Rattle.flac_plans.proofs.Rows.{finest_none, finest_here, finest_below}
 use Rattle.flac_plans.proofs.plan.finest.Goals as goal
 

@@ -1,5 +1,5 @@
 use Rattle.std.proofs.Common.{◌≡◌, ◌≤◌}
-use Rattle.flac_plans.specs.Plans.{finest}
+use Rattle.flac_definitions.specs.Plans.{finest}
 use Rattle.flac_plans.proofs.plan.finest.Given as goal
 
 abbrev pub invariant-loop-p : goal.invariant-loop-p

@@ -1,6 +1,7 @@
 use Rattle.std.proofs.Common.{ℕ, ◌≤◌, ◌+◌, ap, ◌∙◌, ◌/◌, ◌^◌, map, sym, subst, arith}
 use Rattle.flac_definitions.specs.ResidualSpelling.{folded_value}
-use Rattle.flac_plans.specs.Plans.{finest, plan_bits, best_partition, leasts, part_bounds}
+use Rattle.flac_definitions.specs.Plans.{finest, plan_bits, best_partition}
+use Rattle.flac_plans.specs.Search.{leasts, part_bounds}
 use Rattle.flac_plans.proofs.Windows.{is_first}
 use Rattle.flac_plans.proofs.Descent.{one_shifted}
 use Rattle.flac_plans.proofs.Least.{plan_no_less}

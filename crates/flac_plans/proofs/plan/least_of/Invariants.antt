@@ -1,6 +1,6 @@
 use Rattle.std.proofs.Common.{◌≡◌, ◌≤◌, ◌*◌, ◌+◌, ◌^◌, map}
 use Rattle.flac_definitions.specs.ResidualSpelling.{folded_value}
-use Rattle.flac_plans.specs.Plans.{leasts, part_bounds}
+use Rattle.flac_plans.specs.Search.{leasts, part_bounds}
 use Rattle.flac_plans.proofs.plan.least_of.Given as goal
 
 abbrev pub invariant-loop-j : goal.invariant-loop-j

@@ -1,5 +1,5 @@
 use Rattle.std.proofs.Common.{ℕ, ap, ◌+◌, rules, arith}
-use Rattle.flac_plans.specs.Plans.{best_parameter, part_of, part_bits}
+use Rattle.flac_definitions.specs.Plans.{best_parameter, part_of, part_bits}
 use Rattle.flac_plans.proofs.Rows.{parameters_more, bits_more}
 use Rattle.flac_plans.proofs.plan.level.Goals as goal
 

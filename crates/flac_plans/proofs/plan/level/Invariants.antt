@@ -1,6 +1,6 @@
 use Rattle.std.proofs.Common.{◌≡◌, ◌≤◌, ◌+◌, ◌*◌, ◌^◌, map, sum_by}
 use Rattle.std.specs.List.{range_with_len}
-use Rattle.flac_plans.specs.Plans.{best_parameter, part_of, part_bits}
+use Rattle.flac_definitions.specs.Plans.{best_parameter, part_of, part_bits}
 use Rattle.flac_plans.proofs.plan.level.Given as goal
 
 abbrev pub invariant-loop-j : goal.invariant-loop-j

@@ -1,5 +1,6 @@
 use Rattle.std.proofs.Common.{ℕ, List, ap, sym, ◌∙◌, ◌++◌, ◌*◌}
-use Rattle.flac_plans.specs.Plans.{row, part_of}
+use Rattle.flac_definitions.specs.Plans.{part_of}
+use Rattle.flac_plans.specs.Search.{row}
 use Rattle.flac_plans.proofs.Rows.{one_more}
 use Rattle.flac_plans.proofs.plan.merged.Goals as goal
 

@@ -1,5 +1,5 @@
 use Rattle.std.proofs.Common.{◌≡◌, ◌*◌}
-use Rattle.flac_plans.specs.Plans.{table}
+use Rattle.flac_plans.specs.Search.{table}
 use Rattle.flac_plans.proofs.plan.merged.Given as goal
 
 abbrev pub invariant-loop-j : goal.invariant-loop-j

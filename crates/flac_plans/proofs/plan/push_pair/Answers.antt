@@ -1,6 +1,7 @@
 use Rattle.std.proofs.Common.{ℕ, List, ap, ◌∙◌, ◌++◌, ◌*◌, ◌≡◌, subst, length}
 use Rattle.std.specs.Result.{OnOk}
-use Rattle.flac_plans.specs.Plans.{row, part_of}
+use Rattle.flac_definitions.specs.Plans.{part_of}
+use Rattle.flac_plans.specs.Search.{row}
 use Rattle.flac_plans.proofs.Rows.{table_joined}
 use Rattle.flac_plans.proofs.plan.push_pair.Goals as goal
 

@@ -1,6 +1,7 @@
 use Rattle.std.proofs.Common.{ℕ, ap, sym, ◌∙◌, ◌*◌, ◌+◌, ◌-◌, ◌/◌, ◌^◌, ◌≡◌, ◌<◌, subst, refl, arith}
 use Rattle.std.proofs.Math.Nat.{div-le_self}
-use Rattle.flac_plans.specs.Plans.{part_of, table, IsWindow}
+use Rattle.flac_definitions.specs.Plans.{part_of}
+use Rattle.flac_plans.specs.Search.{table, IsWindow}
 use Rattle.flac_plans.proofs.Rows.{windows_joined}
 use Rattle.flac_plans.proofs.Descent.{fits_whole, one_shifted, halved_parts, doubled_size, plan_is, first_plan, better_plan, best_is, usable}
 use Rattle.flac_plans.proofs.plan.searched.Goals as goal

@@ -1,5 +1,6 @@
 use Rattle.std.proofs.Common.{ℕ, ◌≡◌, ◌≤◌, ◌<◌, ◌+◌, ◌-◌, ◌*◌, ◌/◌, ◌^◌, length}
-use Rattle.flac_plans.specs.Plans.{plan_bits, part_of, table, IsFirstLeast, IsWindow, IsPlan}
+use Rattle.flac_definitions.specs.Plans.{plan_bits, part_of, IsPlan}
+use Rattle.flac_plans.specs.Search.{table, IsFirstLeast, IsWindow}
 use Rattle.flac_plans.proofs.plan.searched.Given as goal
 
 abbrev pub invariant-loop-p : goal.invariant-loop-p

@@ -1,5 +1,6 @@
 use Rattle.std.proofs.Common.{ℕ, List, ap, sym, ◌∙◌, ◌++◌}
-use Rattle.flac_plans.specs.Plans.{row, table, part_of}
+use Rattle.flac_definitions.specs.Plans.{part_of}
+use Rattle.flac_plans.specs.Search.{row, table}
 use Rattle.flac_plans.proofs.Rows.{one_more}
 use Rattle.flac_plans.proofs.plan.table.Goals as goal
 

@@ -1,5 +1,5 @@
 use Rattle.std.proofs.Common.{arith, ◌<◌}
-use Rattle.flac_plans.specs.Plans.{part_of}
+use Rattle.flac_definitions.specs.Plans.{part_of}
 use Rattle.flac_plans.proofs.Windows.{window_wider}
 use Rattle.flac_plans.proofs.Rows.{windows_more}
 use Rattle.flac_plans.proofs.plan.window.Goals as goal

@@ -1,5 +1,6 @@
 use Rattle.std.proofs.Common.{ℕ, ◌<◌, ◌≤◌}
-use Rattle.flac_plans.specs.Plans.{part_of, IsWindow}
+use Rattle.flac_definitions.specs.Plans.{part_of}
+use Rattle.flac_plans.specs.Search.{IsWindow}
 use Rattle.flac_plans.proofs.plan.window.Given as goal
 
 abbrev pub invariant-loop-j : goal.invariant-loop-j

@@ -2,7 +2,7 @@ use Rattle.std.proofs.Common.{ℕ, List, Bool, ◌++◌, ap, ◌∙◌, ◌≡�
 use Rattle.std.specs.Result.{OnOk}
 use Rattle.std.proofs.lemmas.Result.{on_err_weaker}
 use Rattle.flac_definitions.specs.Bits.{bits_of}
-use Rattle.flac_plans.specs.Spelling.{rice_bits}
+use Rattle.flac_definitions.specs.ResidualWriting.{rice_bits}
 use Rattle.flac_plans.proofs.Spelled.{on_err, rice_short, rice_long, tail_fits, begun_zeros, begun_tail}
 use Rattle.flac_plans.proofs.residual.put_value.Goals as goal
 

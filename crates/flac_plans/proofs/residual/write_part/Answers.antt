@@ -1,7 +1,7 @@
 use Rattle.std.proofs.Common.{◌≡◌, ◌+◌, ap, map, take, drop, get_or, pos, rules}
 use Rattle.flac_definitions.specs.Bits.{bits_of}
 use Rattle.flac_definitions.specs.ResidualSpelling.{folded_value}
-use Rattle.flac_plans.specs.Spelling.{rice_bits}
+use Rattle.flac_definitions.specs.ResidualWriting.{rice_bits}
 use Rattle.flac_plans.proofs.Spelled.{on_err, each_begun, values_at}
 use Rattle.flac_plans.proofs.residual.write_part.Goals as goal
 

@@ -2,7 +2,7 @@ use Rattle.std.proofs.Common.{◌≡◌, ◌++◌, map, take}
 use Rattle.std.specs.List.{flat_map}
 use Rattle.flac_definitions.specs.Bits.{bits_of}
 use Rattle.flac_definitions.specs.ResidualSpelling.{folded_value}
-use Rattle.flac_plans.specs.Spelling.{rice_bits}
+use Rattle.flac_definitions.specs.ResidualWriting.{rice_bits}
 use Rattle.flac_plans.proofs.residual.write_part.Given as goal
 
 abbrev pub invariant-loop-value : goal.invariant-loop-value

@@ -3,8 +3,8 @@ use Rattle.std.specs.List.{range_with_len}
 use Rattle.std.proofs.lemmas.List.{get_or_read}
 use Rattle.flac_definitions.specs.Bits.{bits_of}
 use Rattle.flac_definitions.specs.ResidualSpelling.{folded_value}
-use Rattle.flac_plans.specs.Plans.{part_of}
-use Rattle.flac_plans.specs.Spelling.{part_spelled}
+use Rattle.flac_definitions.specs.Plans.{part_of}
+use Rattle.flac_definitions.specs.ResidualWriting.{part_spelled}
 use Rattle.flac_plans.proofs.Spelled.{on_err, each_more, each_begun, range_at, range_more}
 use Rattle.flac_plans.proofs.residual.write_residual.Goals as goal
 

@@ -2,8 +2,8 @@ use Rattle.std.proofs.Common.{◌≡◌, ◌++◌, map, slice_index}
 use Rattle.std.specs.List.{flat_map, range_with_len}
 use Rattle.flac_definitions.specs.Bits.{bits_of}
 use Rattle.flac_definitions.specs.ResidualSpelling.{folded_value}
-use Rattle.flac_plans.specs.Plans.{part_of}
-use Rattle.flac_plans.specs.Spelling.{part_spelled}
+use Rattle.flac_definitions.specs.Plans.{part_of}
+use Rattle.flac_definitions.specs.ResidualWriting.{part_spelled}
 use Rattle.flac_plans.proofs.residual.write_residual.Given as goal
 
 abbrev pub invariant-loop-j : goal.invariant-loop-j

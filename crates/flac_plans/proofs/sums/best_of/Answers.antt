@@ -1,5 +1,6 @@
 use Rattle.std.proofs.Common.{ℕ, ◌≡◌, ◌≤◌, ◌+◌, ◌-◌, ◌*◌, length, subst, sym, ap, ◌∙◌, arith}
-use Rattle.flac_plans.specs.Plans.{cost, IsFirstLeast}
+use Rattle.flac_definitions.specs.Plans.{cost}
+use Rattle.flac_plans.specs.Search.{IsFirstLeast}
 use Rattle.flac_plans.proofs.Windows.{in_window, are_words, quotients_bound, cost_is}
 use Rattle.std.proofs.Math.Nat.{mul-le-mul_left}
 use Rattle.flac_plans.proofs.sums.best_of.Goals as goal

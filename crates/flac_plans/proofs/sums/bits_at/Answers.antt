@@ -1,5 +1,5 @@
 use Rattle.std.proofs.Common.{◌≡◌, ◌≤◌, ◌+◌, ◌*◌, length, get_or, refl, arith}
-use Rattle.flac_plans.specs.Plans.{quotients}
+use Rattle.flac_plans.specs.Search.{quotients}
 use Rattle.flac_plans.proofs.Windows.{row_at, are_words, quotients_bound, cost_is}
 use Rattle.std.proofs.Math.Nat.{mul-le-mul_left}
 use Rattle.flac_plans.proofs.sums.bits_at.Goals as goal

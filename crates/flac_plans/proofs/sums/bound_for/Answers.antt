@@ -1,7 +1,7 @@
 use Rattle.std.proofs.Common.{ℕ, ◌≤◌, ◌+◌, ◌*◌, ◌/◌, ◌^◌, length, map, ap, subst, sym, ◌∙◌}
 use Rattle.std.proofs.lemmas.List.{length-map}
 use Rattle.flac_definitions.specs.ResidualSpelling.{folded_value}
-use Rattle.flac_plans.specs.Plans.{bound_at, least_value, total}
+use Rattle.flac_plans.specs.Search.{bound_at, least_value, total}
 use Rattle.flac_plans.proofs.Least.{below_least}
 use Rattle.flac_plans.proofs.Sizes.{bound_grows}
 use Rattle.flac_plans.proofs.sums.bound_for.Goals as goal

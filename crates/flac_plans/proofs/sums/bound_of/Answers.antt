@@ -1,5 +1,5 @@
 use Rattle.std.proofs.Common.{refl, ◌∙◌, arith}
-use Rattle.flac_plans.specs.Plans.{bound_at}
+use Rattle.flac_plans.specs.Search.{bound_at}
 use Rattle.flac_plans.proofs.Sizes.{first_below, first_value, next_below, next_value}
 use Rattle.flac_plans.proofs.sums.bound_of.Goals as goal
 

@@ -1,5 +1,5 @@
 use Rattle.std.proofs.Common.{ℕ, suc, ◌≡◌, ◌<◌, ◌≤◌, ◌+◌, ◌*◌, ◌/◌, ◌^◌}
-use Rattle.flac_plans.specs.Plans.{bound_at, least_value}
+use Rattle.flac_plans.specs.Search.{bound_at, least_value}
 use Rattle.flac_plans.proofs.sums.bound_of.Given as goal
 
 abbrev pub invariant-loop-k : goal.invariant-loop-k

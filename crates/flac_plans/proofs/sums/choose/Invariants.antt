@@ -1,5 +1,6 @@
 use Rattle.std.proofs.Common.{◌≡◌, ◌+◌, ◌-◌}
-use Rattle.flac_plans.specs.Plans.{cost, IsFirstLeast}
+use Rattle.flac_definitions.specs.Plans.{cost}
+use Rattle.flac_plans.specs.Search.{IsFirstLeast}
 use Rattle.flac_plans.proofs.sums.choose.Given as goal
 
 abbrev pub invariant-loop-c : goal.invariant-loop-c

@@ -1,5 +1,5 @@
 use Rattle.std.proofs.Common.{ℕ, ◌≡◌, ◌<◌, ◌≤◌, ◌*◌, ◌^◌, ◌-◌, length, subst, ◌∙◌}
-use Rattle.flac_plans.specs.Plans.{total}
+use Rattle.flac_plans.specs.Search.{total}
 use Rattle.flac_plans.proofs.Windows.{quotients_none}
 use Rattle.flac_plans.proofs.sums.narrowed_by.Goals as goal
 

@@ -1,5 +1,5 @@
 use Rattle.std.proofs.Common.{◌≡◌, ◌++◌}
-use Rattle.flac_plans.specs.Plans.{row}
+use Rattle.flac_plans.specs.Search.{row}
 use Rattle.flac_plans.proofs.sums.push_row.Given as goal
 
 abbrev pub invariant-loop-c : goal.invariant-loop-c

@@ -1,6 +1,6 @@
 use Rattle.std.proofs.Common.{◌≡◌, ◌≤◌, ◌+◌, ◌*◌, length, map, sum_by, take}
 use Rattle.flac_definitions.specs.ResidualSpelling.{folded_value}
-use Rattle.flac_plans.specs.Plans.{distance_within, total}
+use Rattle.flac_plans.specs.Search.{distance_within, total}
 use Rattle.flac_plans.proofs.sums.size_of.Given as goal
 
 abbrev pub invariant-loop-value : goal.invariant-loop-value

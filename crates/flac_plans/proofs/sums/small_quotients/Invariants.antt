@@ -1,5 +1,5 @@
 use Rattle.std.proofs.Common.{◌≡◌, take}
-use Rattle.flac_plans.specs.Plans.{quotients}
+use Rattle.flac_plans.specs.Search.{quotients}
 use Rattle.flac_plans.proofs.sums.small_quotients.Given as goal
 
 abbrev pub invariant-loop-z : goal.invariant-loop-z

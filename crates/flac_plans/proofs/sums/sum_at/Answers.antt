@@ -1,5 +1,5 @@
 use Rattle.std.proofs.Common.{ℕ, ◌≡◌, ◌+◌, ◌^◌, length, get_or, refl, arith}
-use Rattle.flac_plans.specs.Plans.{quotients}
+use Rattle.flac_plans.specs.Search.{quotients}
 use Rattle.flac_plans.proofs.Windows.{row_at, are_words, quotients_bound}
 use Rattle.std.proofs.lemmas.List.Sums.{sum_by-append}
 use Rattle.std.proofs.Common.{◌/◌}

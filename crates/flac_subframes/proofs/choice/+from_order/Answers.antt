@@ -1,6 +1,7 @@
 use Rattle.std.proofs.Common.{◌≡◌, ◌≤◌, ◌+◌, ◌-◌, ◌*◌, suc, arith}
 use Rattle.std.proofs.lemmas.Result.{IfOk-weaker}
-use Rattle.flac_subframes.specs.Candidates.{IsChoice, best_of_order, candidate_bits, shorter, first_shortest, fixed_candidates}
+use Rattle.flac_definitions.specs.Candidates.{IsChoice, candidate_bits, shorter, first_shortest, fixed_candidates}
+use Rattle.flac_subframes.specs.Search.{best_of_order}
 use Rattle.std.specs.List.{flat_map, range_with_len}
 use Rattle.flac_subframes.proofs.Ranges.{bound_fits}
 use Rattle.flac_subframes.proofs.Shortest.{own_choice}

@@ -1,7 +1,7 @@
 use Rattle.std.proofs.Common.{subst}
 use Rattle.std.specs.Result.{IfOk}
-use Rattle.flac_subframes.specs.Candidates.{IsChoice}
-use Rattle.flac_subframes.specs.declared.candidate.Candidate.{Candidate}
+use Rattle.flac_definitions.specs.Candidates.{IsChoice}
+use Rattle.flac_definitions.specs.declared.candidate.Candidate.{Candidate}
 use Rattle.flac_subframes.proofs.Shortest.{whole_search}
 use Rattle.flac_subframes.proofs.choice.best_choice.Goals as goal
 

@@ -1,7 +1,8 @@
 use Rattle.std.proofs.Common.{ℕ, ℤ, List, true, ◌≡◌, ◌-◌, ◌^◌, refl, sym, subst, ap, arith, ◌∙◌}
 use Rattle.std.specs.List.{flat_map, range_with_len}
-use Rattle.flac_subframes.specs.Fixed.{AreWithin, are_in_range, residuals}
-use Rattle.flac_subframes.specs.Candidates.{IsChoice, candidate_bits, first_shortest, fixed_candidates, best_of_order}
+use Rattle.flac_definitions.specs.FixedPredictors.{are_in_range, residuals}
+use Rattle.flac_subframes.specs.Search.{AreWithin, best_of_order}
+use Rattle.flac_definitions.specs.Candidates.{IsChoice, candidate_bits, first_shortest, fixed_candidates}
 use Rattle.flac_subframes.proofs.Ranges.{residual_none, bound_at_end, within_range}
 use Rattle.flac_subframes.proofs.Earlier.{whole_choice}
 use Rattle.flac_subframes.proofs.choice.from_likely.Goals as goal

@@ -1,8 +1,9 @@
 use Rattle.std.proofs.Common.{ℤ, List, ◌≡◌, ◌+◌, ◌-◌, ◌^◌, refl, sym, subst, ap, arith, ◌∙◌, rules}
 use Rattle.std.specs.List.{flat_map, range_with_len}
 use Rattle.std.proofs.lemmas.Result.{IfOk-weaker}
-use Rattle.flac_subframes.specs.Fixed.{AreWithin, are_in_range}
-use Rattle.flac_subframes.specs.Candidates.{IsChoice, candidate_bits, first_shortest, fixed_candidates}
+use Rattle.flac_definitions.specs.FixedPredictors.{are_in_range}
+use Rattle.flac_subframes.specs.Search.{AreWithin}
+use Rattle.flac_definitions.specs.Candidates.{IsChoice, candidate_bits, first_shortest, fixed_candidates}
 use Rattle.flac_subframes.proofs.Ranges.{residual_none, bound_at_end, within_range}
 use Rattle.flac_subframes.proofs.Shortest.{own_choice}
 use Rattle.flac_subframes.proofs.Earlier.{first_and_later}

@@ -1,5 +1,5 @@
 use Rattle.std.proofs.Common.{◌≡◌, drop}
-use Rattle.flac_subframes.specs.Candidates.{are_all}
+use Rattle.flac_definitions.specs.Candidates.{are_all}
 use Rattle.flac_subframes.proofs.choice.is_constant.Given as goal
 
 abbrev pub invariant-loop-sample : goal.invariant-loop-sample

@@ -1,7 +1,7 @@
 use Rattle.std.proofs.Common.{sym, subst}
 use Rattle.std.specs.Result.{IfOk}
-use Rattle.flac_subframes.specs.Candidates.{IsChoice}
-use Rattle.flac_subframes.specs.declared.candidate.Candidate.{Candidate}
+use Rattle.flac_definitions.specs.Candidates.{IsChoice}
+use Rattle.flac_definitions.specs.declared.candidate.Candidate.{Candidate}
 use Rattle.flac_subframes.proofs.Shortest.{choice_as, order_in_range, order_too_large}
 use Rattle.flac_subframes.proofs.choice.with_kept.Goals as goal
 

@@ -1,7 +1,7 @@
 use Rattle.std.proofs.Common.{ℕ, ◌≡◌, ◌+◌, ◌-◌, ◌*◌, sym, subst, ap, arith, ◌∙◌}
 use Rattle.std.specs.List.{flat_map, range_with_len}
-use Rattle.flac_subframes.specs.Fixed.{AreWithin}
-use Rattle.flac_subframes.specs.Candidates.{IsChoice, candidate_bits, first_shortest, fixed_candidates}
+use Rattle.flac_subframes.specs.Search.{AreWithin}
+use Rattle.flac_definitions.specs.Candidates.{IsChoice, candidate_bits, first_shortest, fixed_candidates}
 use Rattle.flac_subframes.proofs.Ranges.{bound_fits, bound_more}
 use Rattle.flac_subframes.proofs.Shortest.{own_choice, choice_as, shortest_none}
 use Rattle.flac_subframes.proofs.Earlier.{choice_from, small_range}

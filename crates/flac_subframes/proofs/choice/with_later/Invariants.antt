@@ -1,7 +1,8 @@
 use Rattle.std.proofs.Common.{◌≡◌, ◌+◌, ◌-◌, ◌*◌, ◌^◌}
 use Rattle.std.specs.List.{flat_map, range_with_len}
-use Rattle.flac_subframes.specs.Fixed.{residuals, AreWithin}
-use Rattle.flac_subframes.specs.Candidates.{IsChoice, candidate_bits, first_shortest, fixed_candidates}
+use Rattle.flac_definitions.specs.FixedPredictors.{residuals}
+use Rattle.flac_subframes.specs.Search.{AreWithin}
+use Rattle.flac_definitions.specs.Candidates.{IsChoice, candidate_bits, first_shortest, fixed_candidates}
 use Rattle.flac_subframes.proofs.choice.with_later.Given as goal
 
 abbrev pub invariant-loop-order : goal.invariant-loop-order

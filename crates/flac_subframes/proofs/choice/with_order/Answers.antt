@@ -1,8 +1,8 @@
 use Rattle.std.proofs.Common.{◌≡◌, sym, subst, true, false, rules}
 use Rattle.std.specs.Result.{IfOk}
-use Rattle.flac_subframes.specs.Fixed.{are_in_range, residuals}
-use Rattle.flac_subframes.specs.Candidates.{IsChoice}
-use Rattle.flac_subframes.specs.declared.candidate.Candidate.{Candidate}
+use Rattle.flac_definitions.specs.FixedPredictors.{are_in_range, residuals}
+use Rattle.flac_definitions.specs.Candidates.{IsChoice}
+use Rattle.flac_definitions.specs.declared.candidate.Candidate.{Candidate}
 use Rattle.flac_subframes.proofs.Shortest.{choice_as, order_in_range, order_out_of_range, order_too_large}
 use Rattle.flac_subframes.proofs.choice.with_order.Goals as goal
 

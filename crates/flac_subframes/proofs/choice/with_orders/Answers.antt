@@ -1,5 +1,5 @@
 use Rattle.std.proofs.Common.{refl, sym}
-use Rattle.flac_subframes.specs.Candidates.{candidate_bits}
+use Rattle.flac_definitions.specs.Candidates.{candidate_bits}
 use Rattle.flac_subframes.proofs.Shortest.{choice_as, own_choice, shortest_none, next_choice}
 use Rattle.flac_subframes.proofs.choice.with_orders.Goals as goal
 

@@ -1,5 +1,5 @@
 use Rattle.std.specs.List.{flat_map, range_with_len}
-use Rattle.flac_subframes.specs.Candidates.{IsChoice, candidate_bits, first_shortest, fixed_candidates}
+use Rattle.flac_definitions.specs.Candidates.{IsChoice, candidate_bits, first_shortest, fixed_candidates}
 use Rattle.flac_subframes.proofs.choice.with_orders.Given as goal
 
 abbrev pub invariant-loop-order : goal.invariant-loop-order

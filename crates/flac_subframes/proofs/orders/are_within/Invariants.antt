@@ -1,5 +1,6 @@
 use Rattle.std.proofs.Common.{ℕ, ◌≡◌, ◌<◌, true, false}
-use Rattle.flac_subframes.specs.Fixed.{at, IsWithin, AreWithin}
+use Rattle.flac_definitions.specs.FixedPredictors.{at}
+use Rattle.flac_subframes.specs.Search.{IsWithin, AreWithin}
 use Rattle.flac_subframes.proofs.orders.are_within.Given as goal
 
 abbrev pub invariant-loop-value : goal.invariant-loop-value

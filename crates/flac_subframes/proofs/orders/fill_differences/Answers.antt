@@ -1,7 +1,7 @@
 use Rattle.std.proofs.Common.{ℕ, pos, ◌+◌, ◌-◌, ◌-ℤ◌, length, length-take, take, arith, ◌∙◌}
 use Rattle.std.proofs.lemmas.List.{get_or-take}
 use Rattle.std.proofs.lemmas.List.FromFn.{fill_by_all}
-use Rattle.flac_subframes.specs.Fixed.{at}
+use Rattle.flac_definitions.specs.FixedPredictors.{at}
 use Rattle.flac_subframes.proofs.orders.fill_differences.Goals as goal
 
 pub returns : goal.returns

@@ -1,5 +1,5 @@
 use Rattle.std.proofs.Common.{ℕ, ◌≡◌, ◌<◌, ◌≤◌, ◌+◌, ◌-ℤ◌, length}
-use Rattle.flac_subframes.specs.Fixed.{at}
+use Rattle.flac_definitions.specs.FixedPredictors.{at}
 use Rattle.flac_subframes.proofs.orders.fill_differences.Given as goal
 
 abbrev pub invariant-loop-j : goal.invariant-loop-j

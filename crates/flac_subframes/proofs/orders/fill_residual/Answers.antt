@@ -1,6 +1,6 @@
 use Rattle.std.proofs.Common.{ℕ, pos, ◌≡◌, ◌≢◌, ◌<◌, ◌+◌, ◌-◌, length, refl, sym, arith, rules, below_more, get_or-set_other, get_or-set_same, to_z, of_z, w32}
 use Rattle.std.proofs.lemmas.List.FromFn.{fill_by_all}
-use Rattle.flac_subframes.specs.Fixed.{residual_at}
+use Rattle.flac_definitions.specs.FixedPredictors.{residual_at}
 use Rattle.flac_subframes.proofs.Ranges.{out_of_range, whole_range}
 use Rattle.flac_subframes.proofs.orders.fill_residual.Goals as goal
 

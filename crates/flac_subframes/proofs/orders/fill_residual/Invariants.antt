@@ -1,5 +1,5 @@
 use Rattle.std.proofs.Common.{ℕ, ◌≡◌, ◌<◌, ◌+◌, length, true}
-use Rattle.flac_subframes.specs.Fixed.{at, residual_at, is_in_range}
+use Rattle.flac_definitions.specs.FixedPredictors.{at, residual_at, is_in_range}
 use Rattle.flac_subframes.proofs.orders.fill_residual.Given as goal
 
 abbrev pub invariant-loop-j : goal.invariant-loop-j

@@ -1,5 +1,5 @@
 use Rattle.std.proofs.Common.{ℕ, ◌≡◌, sym, subst, arith, rules, to_z, of_z, w64}
-use Rattle.flac_subframes.specs.Fixed.{predicted}
+use Rattle.flac_definitions.specs.FixedPredictors.{predicted}
 use Rattle.flac_subframes.proofs.orders.predicted_at.Goals as goal
 
 pub returns-in_default-clause-value : goal.returns-in_default-clause-value

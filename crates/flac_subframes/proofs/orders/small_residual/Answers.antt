@@ -1,5 +1,6 @@
 use Rattle.std.proofs.Common.{ℕ, ℤ, List, ◌*◌, ◌^◌, ◌≡◌, sym, subst, ◌∙◌, refl, arith, ap, true}
-use Rattle.flac_subframes.specs.Fixed.{AreWithin, are_in_range, residuals}
+use Rattle.flac_definitions.specs.FixedPredictors.{are_in_range, residuals}
+use Rattle.flac_subframes.specs.Search.{AreWithin}
 use Rattle.flac_subframes.proofs.Ranges.{residual_none, bound_fits, bound_more, bound_at_end, within_range}
 use Rattle.flac_subframes.proofs.orders.small_residual.Goals as goal
 

@@ -1,5 +1,6 @@
 use Rattle.std.proofs.Common.{◌≡◌, ◌*◌, ◌^◌}
-use Rattle.flac_subframes.specs.Fixed.{residuals, AreWithin}
+use Rattle.flac_definitions.specs.FixedPredictors.{residuals}
+use Rattle.flac_subframes.specs.Search.{AreWithin}
 use Rattle.flac_subframes.proofs.orders.small_residual.Given as goal
 
 abbrev pub invariant-loop-o : goal.invariant-loop-o

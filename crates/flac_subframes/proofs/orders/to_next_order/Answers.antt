@@ -1,5 +1,5 @@
 use Rattle.std.proofs.Common.{ℤ, List, ◌*◌, ap, ◌∙◌, sym, subst}
-use Rattle.flac_subframes.specs.Fixed.{differences, AreWithin}
+use Rattle.flac_subframes.specs.Search.{differences, AreWithin}
 use Rattle.flac_subframes.proofs.Residuals.{next_residuals, differences_within}
 use Rattle.flac_subframes.proofs.orders.to_next_order.Goals as goal
 

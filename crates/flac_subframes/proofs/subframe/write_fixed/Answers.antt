@@ -1,5 +1,5 @@
 use Rattle.std.proofs.Common.{ℤ, List, ◌≡◌, length, ap, arith, rules}
-use Rattle.flac_subframes.specs.Fixed.{residuals}
+use Rattle.flac_definitions.specs.FixedPredictors.{residuals}
 use Rattle.flac_subframes.proofs.Ranges.{residual_count}
 use Rattle.flac_subframes.proofs.subframe.write_fixed.Goals as goal
 

@@ -1,5 +1,5 @@
 use Rattle.std.proofs.Common.{List, Bool, ◌++◌, ◌∙◌, ap, arith, ◌-◌}
-use Rattle.flac_write.specs.Header.{further_bits, long_number_bits}
+use Rattle.flac_definitions.specs.HeaderWriting.{further_bits, long_number_bits}
 use Rattle.flac_write.proofs.NumberLaws.{further_more}
 use Rattle.flac_write.proofs.header.write_long_number.Goals as goal
 

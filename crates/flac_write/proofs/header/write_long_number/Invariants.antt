@@ -1,5 +1,5 @@
 use Rattle.std.proofs.Common.{◌≡◌, ◌≤◌, ◌++◌}
-use Rattle.flac_write.specs.Header.{further_bits, long_number_bits}
+use Rattle.flac_definitions.specs.HeaderWriting.{further_bits, long_number_bits}
 use Rattle.flac_write.proofs.header.write_long_number.Given as goal
 
 abbrev pub invariant-loop-left : goal.invariant-loop-left

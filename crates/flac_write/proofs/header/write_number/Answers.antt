@@ -1,6 +1,6 @@
 use Rattle.std.proofs.Common.{List, Bool, ◌++◌, ◌≡◌, subst, ℕ, ap, ◌∙◌}
 use Rattle.std.specs.Result.{OnOk}
-use Rattle.flac_write.specs.Header.{long_number_bits}
+use Rattle.flac_definitions.specs.HeaderWriting.{long_number_bits}
 use Rattle.flac_write.proofs.NumberLaws.{short_number, long_number}
 use Rattle.flac_write.proofs.header.write_number.Goals as goal
 

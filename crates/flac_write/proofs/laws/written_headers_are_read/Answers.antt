@@ -1,4 +1,4 @@
-use Rattle.flac_write.specs.Header.{header_bits}
+use Rattle.flac_definitions.specs.HeaderWriting.{header_bits}
 use Rattle.flac_write.proofs.HeaderLaws.{header_spelled}
 use Rattle.flac_write.proofs.laws.written_headers_are_read.Goals as goal
 

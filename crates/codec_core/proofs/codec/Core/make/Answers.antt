@@ -1,32 +1,46 @@
-use Rattle.std.proofs.Common.{arith, refl, false, true, sym, ◌∙◌}
-use Rattle.codec_model.specs.Replay.{with_control}
-use Rattle.codec_core.proofs.Steps.{call_is, call_moves, makes_more, most_reclaims}
-use Rattle.codec_core.proofs.{Recorded.core_next, Recorded.call_ends, Owning.keeps_running, Owning.asked_stays}
+use Rattle.std.proofs.Common.{◌≡◌, ◌-◌, ◌∙◌, sym, ap, refl, true, not, is_none, ◌&&◌, rules, arith}
+use Rattle.codec_model.specs.Replay.{may_call, removes, call_error}
+use Rattle.codec_accounts.specs.Boxes.{removal_act}
+use Rattle.codec_core.specs.Codec.{Codec, kept_box}
+use Rattle.codec_core.proofs.Steps.{made_moves, place_kept}
+use Rattle.codec_core.proofs.Recorded.{call_ends}
+use Rattle.codec_core.proofs.Owning.{at_home, control_at, keeps_called, back_removal}
+use Rattle.codec_core.specs.ReplyLaws.{removes_by_exception}
+use Rattle.codec_core.proofs.Replies.{core_called, replied, twice}
+use Rattle.codec_core.proofs.codec.Core.make.Given.{Over}
 use Rattle.codec_core.proofs.codec.Core.make.Goals as goal
 
-pub call-requires : goal.call-requires
-call-requires g c = omega (arith, rw c.in_ok-reserve.ensures.ok at c.in_ok-reserve.ensures.fits, c.self.invariant.kept.is_place)
-
 pub push-requires-clause-ends : goal.push-requires-clause-ends
-push-requires-clause-ends g c = rw c.in_ok-reserve.ensures.ok (call_ends c.self.invariant.kept c.args.call _ c.in_ok-answer.ensures.answer.is_shown)
+push-requires-clause-ends g c = call_ends c.never_stuck.ensures.facts c.self.invariant.kept c.args.call _ (rw c.in-Ok.ensures.ok at c.in-Ok-call.ensures.answer.is_shown)
 
-pub invariant_of-self-2 : goal.invariant_of-self-2
-invariant_of-self-2 g c =
-    let kept = c.self.invariant.kept in
-    let is = call_is c.args.who c.args.call kept.state in
-    let shows = c.in_ok-answer.ensures.answer.is_shown ∙ sym (call_is c.args.who c.args.call (with_control c.self.inside.machine kept.state)).shows in
-    rw (c.push.ensures, c.in_ok-reserve.ensures.ok, c.in_ok-entry.ensures)
-    (core_next c.self.invariant _ c.self.inside.spare _ (call_moves kept c.args.who c.args.call c.in_ok-answer.ensures.ok) shows is.takes_none (
-      omega (arith, c.in_ok-answer.ensures.left, c.in_ok-places.ensures, most_reclaims c.call-2.new.self.phase),
-      rw c.in_ok-reserve.ensures.ok at c.in_ok-reserve.ensures.fits,
-    ) true is.act refl)
+may : (g : Over) (c : goal.After-push g) → may_call c.args.call c.self.inside.machine ≡ true
+may g c = rw (control_at c.self.invariant c.self.view_is) at c.requires.may
 
-pub returns-clause-made : goal.returns-clause-made
-returns-clause-made g c =
-    rw (← c.self.view_is, c.push.ensures, c.in_ok-reserve.ensures.ok, c.in_ok-entry.ensures) (makes_more c.self.invariant.kept (call_moves c.self.invariant.kept c.args.who c.args.call c.in_ok-answer.ensures.ok) c.self.inside.spare c.self.inside.spare)
+stays : (g : Over) (c : goal.After-push g) → c.box_stays-stays.result ≡ not (removes c.args.call && is_none (call_error c.args.call c.self.inside.machine))
+stays g c = rw (c.box_stays-stays.ensures, c.removes-removes.ensures, rw c.in-Ok.ensures.ok at c.in-Ok-call.ensures.answer.is_exception) (ap not (removes_by_exception c.args.call _))
+
+box : (g : Over) (c : goal.After-push g) → c.hand_back-coder.new.slot ≡ kept_box (not (removes c.args.call && is_none (call_error c.args.call c.self.inside.machine))) c.self.inside.slot
+box g c = rw (stays g c) at c.hand_back-coder.ensures.left
+
+pub invariant_of-self : goal.invariant_of-self
+invariant_of-self g c =
+    let m = made_moves c.self.invariant.kept c.args.who c.args.call c.requires.sends c.requires.takes (may g c) (box g c) (rw c.in-Ok.ensures.ok at c.in-Ok-call.ensures.ok) in
+    rw c.push.ensures
+    (core_called c.self.invariant c.args.who c.args.call m (c.self.inside.spare - 1) (box g c) _ _ (rw c.in-Ok.ensures.ok at c.in-Ok-call.ensures.answer.is_shown) c.requires.takes (
+      omega (arith, (rw c.in-Ok.ensures.ok at c.in-Ok-call.ensures.kept) c.requires.sends, c.requires.spare, ap (λ (v : Codec). v.spare) c.self.view_is, c.self.invariant.places, place_kept c.self.invariant.kept m),
+      c.self.invariant.fits,
+    ))
+
+pub returns-clause-replied : goal.returns-clause-replied
+returns-clause-replied g c =
+    let m = made_moves c.self.invariant.kept c.args.who c.args.call c.requires.sends c.requires.takes (may g c) (box g c) (rw c.in-Ok.ensures.ok at c.in-Ok-call.ensures.ok) in
+    rw (← c.self.view_is, c.push.ensures)
+    (replied c.self.invariant c.args.who c.args.call m (c.self.inside.spare - 1) (box g c) _ _ _ _ c.in-Ok-call.ensures.answer.is_place (rw c.in-Ok.ensures.ok at c.in-Ok-call.ensures.answer.is_exception) (rw c.place.ensures at c.promise-promise.ensures) (rw (stays g c) at c.hand_back-coder.ensures.taken) (rw c.requires.sends (omega (arith, c.requires.spare, ap (λ (v : Codec). v.spare) c.self.view_is))))
 
 pub returns-clause-running : goal.returns-clause-running
-returns-clause-running g c = keeps_running false (returns-clause-made g c) (call_is c.args.who c.args.call _).act
+returns-clause-running g c = keeps_called (returns-clause-replied g c).made
 
-pub returns-clause-asked : goal.returns-clause-asked
-returns-clause-asked g c = asked_stays false (returns-clause-made g c) (call_is c.args.who c.args.call _).act
+pub returns-clause-lets : goal.returns-clause-lets
+returns-clause-lets g c =
+    let r = returns-clause-replied g c in
+    back_removal c.args.self.now _ _ _ _ _ r.made (ap removal_act (twice _)) (at_home c.self.invariant c.self.view_is) r.is_place r.coder

@@ -15,6 +15,7 @@ invariant_of-result g c = rw (c.in_ok-trace.ensures.empty, c.in_ok-machine.ensur
   shows = refl;
   outputs = record { counted = refl; took = omega arith; others = refl };
   own = tt;
+  lent = λ runs. absurd cc;
   places = omega (arith, c.in_ok-places.ensures);
   fits = rw c.in_ok-trace.ensures.empty at c.in_ok-trace.ensures.fits;
 })

@@ -2,7 +2,7 @@ use Rattle.wc_base.specs.declared.error.DomError.TheVariants.{QuotaExceeded}
 use Rattle.std.proofs.Common.{true, refl, rules, arith, false}
 use Rattle.codec_core.proofs.Steps.{reclaim_moves, makes_more, reclaim_reclaims}
 use Rattle.codec_core.proofs.Recorded.{close_below, core_next, next_fits, ends_below}
-use Rattle.codec_core.proofs.Owning.{at_home, keeps_running, asked_stays, back_removal}
+use Rattle.codec_core.proofs.Owning.{at_home, keeps_running, back_removal}
 use Rattle.codec_core.proofs.codec.Core.reclaim.Goals as goal
 
 pub reclaim-requires : goal.reclaim-requires
@@ -20,13 +20,11 @@ invariant_of-self-2 g c =
 
 pub returns-clause-made : goal.returns-clause-made
 returns-clause-made g c =
-    rw (← c.self.view_is, c.push.ensures, c.hand_back-coder.ensures.left) (makes_more c.self.invariant.kept (reclaim_moves c.self.invariant.kept c.args.now c.in_ok-answer.ensures.may c.in_ok-answer.ensures.made) c.self.inside.spare c.self.inside.spare)
+    rw (← c.self.view_is, c.push.ensures, c.hand_back-coder.ensures.left) (makes_more c.self.invariant.kept (reclaim_moves c.self.invariant.kept c.args.now c.in_ok-answer.ensures.may c.in_ok-answer.ensures.made) c.self.inside.spare c.self.inside.spare c.self.inside.out c.self.inside.out)
 
 pub returns-clause-running : goal.returns-clause-running
 returns-clause-running g c = keeps_running true (returns-clause-made g c) refl
 
-pub returns-clause-asked : goal.returns-clause-asked
-returns-clause-asked g c = asked_stays true (returns-clause-made g c) refl
 
 pub returns-clause-lets : goal.returns-clause-lets
 returns-clause-lets g c =

@@ -10,6 +10,7 @@ invariant_of-self-2 g c =
       shows = is.shows;
       outputs = is.outputs;
       own = is.own;
+      lent = is.lent;
       places = omega (arith, c.in_ok-places.ensures, most_reclaims c.self.inside.machine.phase);
       fits = rw c.in_ok-reserve.ensures.ok at c.in_ok-reserve.ensures.fits;
     })

@@ -2,7 +2,7 @@ use Rattle.std.proofs.Common.{◌≡◌, Some, refl, sym, rules, arith, not}
 use Rattle.codec_model.specs.Control.{turn_closes}
 use Rattle.codec_core.proofs.Steps.{turn_moves, makes_more, place_kept}
 use Rattle.codec_core.proofs.Recorded.{turn_below, core_next, next_fits, ends_below}
-use Rattle.codec_core.proofs.Owning.{at_home, control_at, turn_act, keeps_running, asked_stays, back_turn}
+use Rattle.codec_core.proofs.Owning.{at_home, control_at, turn_act, keeps_running, back_turn}
 use Rattle.codec_core.proofs.codec.Core.turn.Given.{Over}
 use Rattle.codec_core.proofs.codec.Core.turn.Goals as goal
 
@@ -25,13 +25,11 @@ invariant_of-self-2 g c =
     (omega (arith, c.in_ok-answer.ensures.left, c.self.invariant.places, place_kept kept m), c.self.invariant.fits) (not c.closes-closes.result) act c.hand_back-coder.ensures.left)
 
 pub returns-clause-some : goal.returns-clause-some
-returns-clause-some g c = rw (← c.self.view_is, c.push.ensures) (makes_more c.self.invariant.kept (turn_moves c.self.invariant.kept _ (closes_is g c) c.hand_back-coder.ensures.left c.turn.ensures.after) c.self.inside.spare c.self.inside.spare)
+returns-clause-some g c = rw (← c.self.view_is, c.push.ensures) (makes_more c.self.invariant.kept (turn_moves c.self.invariant.kept _ (closes_is g c) c.hand_back-coder.ensures.left c.turn.ensures.after) c.self.inside.spare c.self.inside.spare c.self.inside.out c.self.inside.out)
 
 pub returns-clause-running : goal.returns-clause-running
 returns-clause-running g c = keeps_running _ (returns-clause-some g c) refl
 
-pub returns-clause-asked : goal.returns-clause-asked
-returns-clause-asked g c = asked_stays _ (returns-clause-some g c) refl
 
 pub returns-clause-lets : goal.returns-clause-lets
 returns-clause-lets g c =

@@ -1,8 +1,25 @@
+use Rattle.std.proofs.Common.{Option, length, ◌∙◌, sym, subst}
 use Rattle.std.specs.Prelude.{Some}
+use Rattle.wc_base.specs.declared.who.By.{By}
+use Rattle.codec_accounts.specs.Codec.{CodecValue, next_by, IsGivable}
+use Rattle.codec_core.specs.{Codec.state_at, Job.JobValue}
+use Rattle.codec_model.specs.Control.{start_item}
+use Rattle.wc_replay.specs.Desk.{box_of}
 use Rattle.std.proofs.lemmas.Result.{IfOk-at_ok}
 use Rattle.trace_text.specs.Follow.{start_entry}
-use Rattle.wc_replay.proofs.Desks.{seen, makes_seen, started_makes}
+use Rattle.wc_replay.proofs.Desks.{seen, makes_seen, started_makes, some_item, idle_job}
 use Rattle.wc_replay.proofs.desk.Desk.start.Goals as goal
+
+pub fill-job-requires-clause-givable : goal.fill-job-requires-clause-givable
+fill-job-requires-clause-givable g c κs within =
+    let d = c.self.inside in
+    let k = c.args.codec in
+    let core = d.core.codec in
+    let said = c.in-Some.ensures in
+    let item = some_item (start_item (state_at core).control) c.in-Some.job.number c.in-Some.job.work said.item in
+    let idle = idle_job (state_at core) d.job item.0 c.self.invariant.matches item.1 in
+    let here = subst (λ (v : CodecValue). IsGivable c.args.slots.now.history (next_by k v) v.holding.box) (sym c.self.view_is) c.requires.givable in
+    rw (said.coder, c.place-place.ensures, said.place) (subst (λ (o : Option JobValue). IsGivable c.args.slots.now.history (By.Codec k (length core.history)) (box_of core.slot o)) idle here)
 
 pub returns : goal.returns
 returns g c = λ m.

@@ -1,8 +1,0 @@
-use Rattle.std.proofs.Common.{rules, arith, refl}
-use Rattle.codec_queues.proofs.{Rising.rising_next, Roomy.roomy_queued}
-use Rattle.codec_queues.proofs.machine.Machine.queue_sound.Goals as goal
-
-pub invariant_of-self-2 : goal.invariant_of-self-2
-invariant_of-self-2 c =
-    roomy_queued _ c.self.invariant refl c.reserve_places.ensures.messages c.push_back_reserved.ensures.items c.reserve_places.ensures.work c.reserve_places.ensures.tasks (omega arith)
-    (rw c.reserve_places.ensures.pending (rising_next _ _ c.self.invariant.promises)) (search rules) c.in_ok-room.ensures.small (search rules) (search rules)

@@ -1,0 +1,116 @@
+// What a person is told on standard error, beside what `top` wrote. No clause speaks of it: it reads the files again, and
+// decides nothing.
+
+use crate::command::file_to_replay;
+use crate::help::{HELP, VERSION};
+use crate::prepare::prepare;
+use chunk_files::read_chunks;
+use script_hints::{fault_hints, member_warnings};
+use script_types::{Fault, Stop};
+use std::alloc::Global;
+use std::io::{self, Read};
+use std::{fs, rt};
+use wc_base::{Files, SystemFiles};
+
+// The most bytes of a script, and of a chunk file.
+const MOST_SCRIPT: u64 = 16_777_216;
+
+const MOST_FILE: u64 = 268_435_456;
+
+fn write(rt: &impl Eprint, lines: &[u8]) {
+    if let Ok(text) = std::str::from_utf8(lines) {
+        let _ = eprint!(rt; "{text}");
+    }
+}
+
+// Why the system does not read a file: the failed opening, or the failed first read.
+fn why_unread<R: rt::Files>(rt: &R, name: &str) -> io::Result<usize> {
+    let mut file = fs::open(rt, name)?;
+    let mut byte = [0];
+    file.read(&mut byte)
+}
+
+fn tell_unread<R: rt::Files + Eprint>(rt: &R, name: &str) {
+    if let Err(why) = why_unread(rt, name) {
+        let _ = eprintln!(rt; "{name}: {why}");
+    }
+}
+
+// How many chunks a chunk file has.
+fn chunk_count<F: Files>(alloc: Global, files: &mut F, name: &str) -> Option<usize> {
+    let Ok(bytes) = files.read_all(alloc, name, MOST_FILE) else {
+        return None;
+    };
+    match read_chunks(alloc, &bytes) {
+        Ok(chunks) => Some(chunks.len()),
+        Err(_) => None,
+    }
+}
+
+// How many chunks the file has that lacks one.
+fn held_by<F: Files>(alloc: Global, files: &mut F, fault: &Fault) -> Option<usize> {
+    match fault {
+        Fault::NoIndex { name, place: _ } => chunk_count(alloc, files, name.as_str()),
+        _ => None,
+    }
+}
+
+// The fault for which the script in this file was not replayed.
+fn fault_of<F: Files>(alloc: Global, files: &mut F, name: &str) -> Option<Fault> {
+    match prepare(alloc, name, files) {
+        Err(Stop::Fault(fault)) => Some(fault),
+        _ => None,
+    }
+}
+
+// Tells of the fault, and whether the script is JSON all the same.
+fn tell_fault<R: rt::Files + Eprint>(rt: &R, alloc: Global, name: &str) -> bool {
+    let mut files = SystemFiles::new(alloc, rt);
+    let Some(fault) = fault_of(alloc, &mut files, name) else {
+        return false;
+    };
+    if let Fault::Unread { name } = &fault {
+        tell_unread(rt, name.as_str());
+        return false;
+    }
+    let held = held_by(alloc, &mut files, &fault);
+    // of a script above its limit nothing is looked at
+    let text = files
+        .read_all(alloc, name, MOST_SCRIPT)
+        .unwrap_or(Vec::new(alloc));
+    if let Ok(lines) = fault_hints(alloc, name, &text, &fault, held) {
+        write(rt, &lines);
+    }
+    fault != Fault::NotJson
+}
+
+fn warn<R: rt::Files + Eprint>(rt: &R, alloc: Global, name: &str) {
+    let mut files = SystemFiles::new(alloc, rt);
+    let Ok(text) = files.read_all(alloc, name, MOST_SCRIPT) else {
+        return;
+    };
+    if let Ok(lines) = member_warnings(alloc, name, &text) {
+        write(rt, &lines);
+    }
+}
+
+/// Tells what more there is to say of a command that ended with this status.
+pub fn tell<R: rt::Files + Eprint>(rt: &R, alloc: Global, words: &[String], status: u8) {
+    if status == 5 {
+        let _ = eprintln!(rt;
+            "wcrun: standard output did not take what was written; what stands there is a beginning of it"
+        );
+        return;
+    }
+    let Some(name) = file_to_replay(words) else {
+        let _ = eprint!(rt; "wcrun {VERSION}\n\n{HELP}");
+        return;
+    };
+    let warns = match status {
+        3 | 4 | 7 => tell_fault(rt, alloc, name),
+        _ => status == 0,
+    };
+    if warns {
+        warn(rt, alloc, name);
+    }
+}
