@@ -2,9 +2,7 @@
 use Rattle.std.proofs.Common.{ℕ, suc, ◌≡◌, ◌==◌, not, Bool, true, false, cond, List, [], ◌∷◌, ◌++◌, Option, Some, None, is_some, is_none, refl, ap, sym, subst, ◌∙◌, add-one}
 use Rattle.std.specs.Prelude.{max, unwrap_or}
 use Rattle.std.proofs.lemmas.Bool.{and_parts}
-use Rattle.wc_base.specs.declared.error.DomError.{DomError}
 use Rattle.wc_config.specs.declared.codec.CoderId.{CoderId}
-use Rattle.codec_model.specs.declared.entry.Call.{Call}
 use Rattle.codec_model.specs.declared.entry.Ended.{Ended}
 use Rattle.codec_model.specs.declared.entry.Ended.TheVariants as ended
 use Rattle.codec_model.specs.declared.entry.Entry.{Entry}

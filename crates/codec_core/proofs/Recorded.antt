@@ -1,6 +1,6 @@
 -- A step is recorded, with what it shows.
 use Rattle.std.proofs.Common.{ℕ, not, ◌≡◌, ◌+◌, ◌-◌, ◌^◌, ◌<◌, ◌≤◌, Bool, false, true, eqb, slice_get, List, [], ◌∷◌, ◌++◌, drop, length, length-append, Option, Some, None, is_some, refl, ap, sym, append-nil, eq-eqb, ◌∙◌, arith}
-use Rattle.std.specs.Prelude.{nat_lt, IfSome, option_map}
+use Rattle.std.specs.Prelude.{nat_lt, IfSome}
 use Rattle.std.specs.List.{AllByRecursion}
 use Rattle.std.proofs.lemmas.Bool.{and_parts, eqb-true}
 use Rattle.std.proofs.lemmas.List.{drop-append-le, drop-drop, length-drop}

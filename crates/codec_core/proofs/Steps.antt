@@ -1,6 +1,6 @@
 -- Steps of a history, and where the box is after each.
-use Rattle.std.proofs.Common.{ℕ, ◌≡◌, ◌+◌, ◌≤◌, ◌<◌, ◌&&◌, ◌||◌, not, Bool, true, false, eqb, cond, List, [], ◌∷◌, ◌++◌, drop, length-append, Option, Some, None, is_some, is_none, refl, ap, sym, subst, eq-eqb, ◌∙◌, arith}
-use Rattle.std.specs.Prelude.{unwrap_or, max, IfNone, OnSome, option_and_then}
+use Rattle.std.proofs.Common.{ℕ, ◌≡◌, ◌+◌, ◌≤◌, ◌<◌, ◌&&◌, not, Bool, true, false, eqb, cond, List, [], ◌∷◌, ◌++◌, drop, length-append, Option, Some, None, is_some, is_none, refl, ap, sym, subst, eq-eqb, ◌∙◌, arith}
+use Rattle.std.specs.Prelude.{unwrap_or, max, IfNone, option_and_then}
 use Rattle.std.proofs.lemmas.Bool.{and_parts, eqb-true, not-true}
 use Rattle.std.proofs.lemmas.Bool.Decides.{nat_tests}
 use Rattle.wc_base.specs.{Options.cond_is, Options.some_same, declared.error.DomError.DomError, declared.who.Who.Who}
@@ -9,9 +9,9 @@ use Rattle.coder_api.specs.Lent.{Lent}
 use Rattle.wc_config.specs.{declared.config.Config.Config, Configs.coder_id_of}
 use Rattle.codec_model.specs.declared.entry.{CodecState.CodecState, Opening.Opening, Call.Call, Entry.Entry}
 use Rattle.codec_model.specs.declared.entry.CodecState.TheVariants.{Unconfigured, Configured, Closed}
-use Rattle.codec_model.specs.declared.entry.{Handed.Handed, Work.Work, Message.Message, Item.Item, Running.Running, Task.Task}
+use Rattle.codec_model.specs.declared.entry.{Handed.Handed, Work.Work, Item.Item, Running.Running, Task.Task}
 use Rattle.codec_model.specs.{declared.entry.Ended.Ended, ShownLaws.replay_more}
-use Rattle.codec_model.specs.Control.{Control, is_decoder, after_message, process, with_message, at_next_place, is_close, turn_closes, run_task, run_front, kind_of, after_done, done_running, after_end, after_turn, after_close, after_reset, may_reclaim, front, may_start, start_item, after_start, after_take, may_take}
+use Rattle.codec_model.specs.Control.{Control, process, with_message, at_next_place, is_close, turn_closes, run_task, run_front, kind_of, after_done, done_running, after_end, after_turn, after_close, after_reset, may_reclaim, front, may_start, start_item, after_start, after_take, may_take}
 use Rattle.codec_model.specs.Replay.{State, Given, missing_coder, opening_state, step, with_control, removed, after_call, call_error, may_call, message_of, sends, removes, takes, accepted, config_asked, coder_wanted, serves_too}
 use Rattle.codec_model.specs.StepLaws.{by_items, by_removals, begun, start_made, asked, call_sends, closed_refuses, senders_stay}
 use Rattle.codec_core.specs.Job.{DoneValue, missing_for, CoderAt, CoderFor, StillAt, IsEndOf, IsJobOf, outcome_of, holds}

@@ -1,5 +1,5 @@
 -- A job and its end as contracts see them, and what they stand for.
-use Rattle.std.specs.Prelude.{ℕ, ◌≡◌, Bool, true, false, ◌&&◌, not, List, [], ◌∷◌, ◌++◌, length, Option, Some, None, is_some, option_map, option_and_then, IfNone, Result, Ok, Err}
+use Rattle.std.specs.Prelude.{ℕ, ◌≡◌, Bool, true, false, ◌&&◌, List, [], ◌∷◌, ◌++◌, length, Option, Some, None, is_some, option_map, option_and_then, IfNone, Result, Ok, Err}
 use Rattle.wc_config.specs.declared.codec.CoderId.{CoderId}
 use Rattle.wc_config.specs.declared.config.Config.{Config}
 use Rattle.wc_config.specs.declared.config.AudioDecoderConfig.{AudioDecoderConfig}

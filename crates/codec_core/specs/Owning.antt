@@ -22,4 +22,3 @@ pub record IsOwnJob (o : Out) (job : JobValue) : Type 0 where
 abbrev pub GoesBack : Codec → ℕ → Option Lent → Type 0
 GoesBack c at None = Unit {0}
 GoesBack c at (Some lent) = (asked : ℕ) × IsBy lent.by (Some asked) × (lets c.opening c.history asked ≡ Some at)
-

@@ -1,6 +1,6 @@
 -- The references that a codec holds after one more entry.
 use Rattle.std.proofs.Common.{ℕ, ◌≡◌, Bool, true, false, cond, not, List, [], ◌∷◌, ◌++◌, length, map, Option, Some, None, is_none, is_some, refl, ap, sym, ◌∙◌, append_assoc, append-nil, arith}
-use Rattle.std.specs.Prelude.{unwrap_or, option_map, Result, Ok, Err, IfOk, IfErr, IfSome}
+use Rattle.std.specs.Prelude.{unwrap_or, option_map, IfSome}
 use Rattle.std.proofs.lemmas.Bool.{and_parts}
 use Rattle.std.proofs.lemmas.List.{map_push}
 use Rattle.wc_base.specs.declared.who.Who.{Who}
@@ -9,7 +9,7 @@ use Rattle.codec_model.specs.declared.entry.{Pair.Pair, Handed.Handed, Call.Call
 use Rattle.coder_api.specs.Lent.{Lent}
 use Rattle.codec_model.specs.{declared.entry.Running.Running, declared.entry.Entry.Entry, Replay.State, Replay.sends, Held.HeldMoves}
 use Rattle.codec_model.specs.Control.{held_of, front, may_start, start_item, turn_closes}
-use Rattle.codec_model.specs.Held.{in_order, held_by, items_held, messages_held, running_pairs, waiting_held, front_held, behind_held, waiting_after, running_after, closes_codec, adds_held, lets_go, is_removal}
+use Rattle.codec_model.specs.Held.{in_order, held_by, items_held, messages_held, waiting_held, front_held, behind_held, waiting_after, running_after, closes_codec, adds_held, lets_go, is_removal}
 use Rattle.codec_core.specs.Codec.{Codec, state_at, Makes, item_parts, closes_now, removed_if, RemovedValue}
 use Rattle.codec_media.specs.Holding.{pair_of, IsHolding, TakesIf, without_media}
 use Rattle.codec_media.specs.Holding as holding

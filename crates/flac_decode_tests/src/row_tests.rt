@@ -50,8 +50,7 @@ pub(crate) fn decoded(
     alloc: Global,
     frame: &[u8],
     info: &StreamInfo,
-) -> Result<Option<(u32, Vec<u8>)>, NoMemory>
-{
+) -> Result<Option<(u32, Vec<u8>)>, NoMemory> {
     let mut residual = Vec::new(alloc);
     let mut samples = Vec::new(alloc);
     let mut out = Vec::new(alloc);

@@ -59,8 +59,7 @@ fn work_on<W: Write>(
     info: &StreamInfo,
     buffers: &mut Buffers,
     writer: &mut W,
-) -> io::Result<Option<u64>>
-{
+) -> io::Result<Option<u64>> {
     let Buffers {
         residual,
         samples,

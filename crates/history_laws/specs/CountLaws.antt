@@ -2,7 +2,6 @@
 use Rattle.std.proofs.Common.{ℕ, zero, suc, ◌≡◌, ◌+◌, Bool, true, false, eqb, cond, map, List, [], ◌∷◌, ◌++◌, append_assoc, append-nil, length, length-append, slice_get, Option, Some, None, refl, ap, sym, subst, ◌∙◌, arith}
 use Rattle.std.specs.Prelude.{max, unwrap_or, option_map, option_and_then}
 use Rattle.std.specs.List.{AllByRecursion}
-use Rattle.wc_base.specs.declared.error.DomError.{DomError}
 use Rattle.wc_base.specs.Options.{some_same}
 use Rattle.wc_config.specs.declared.config.AudioDecoderConfig.{AudioDecoderConfig}
 use Rattle.codec_definitions.specs.declared.unit.Unit as media

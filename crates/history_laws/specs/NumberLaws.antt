@@ -1,7 +1,6 @@
 -- No number of a codec's state is above the number of its entries.
-use Rattle.std.proofs.Common.{ℕ, ◌≡◌, ◌+◌, ◌≤◌, Bool, true, false, eqb, cond, List, [], ◌∷◌, ◌++◌, length, length-append, Option, Some, None, refl, ap, sym, subst, ◌∙◌, arith}
+use Rattle.std.proofs.Common.{ℕ, ◌≡◌, ◌+◌, ◌≤◌, Bool, true, false, eqb, cond, List, [], ◌∷◌, ◌++◌, length, length-append, Some, None, refl, ap, sym, subst, ◌∙◌, arith}
 use Rattle.std.specs.Prelude.{max, unwrap_or}
-use Rattle.wc_base.specs.declared.error.DomError.{DomError}
 use Rattle.wc_base.specs.Options.{some_same}
 use Rattle.codec_model.specs.declared.entry.Opening.{Opening}
 use Rattle.codec_model.specs.declared.entry.Call.{Call}

@@ -3,7 +3,6 @@
 use Rattle.std.proofs.Common.{ℕ, ◌≡◌, ◌+◌, ◌&&◌, not, Bool, true, false, eqb, cond, List, [], ◌∷◌, ◌++◌, length, Option, Some, None, is_some, refl, ap, sym, subst, ◌∙◌, append_assoc}
 use Rattle.std.specs.Prelude.{option_map, unwrap_or, max, count_by, filter}
 use Rattle.std.specs.List.{AllByRecursion}
-use Rattle.wc_base.specs.declared.error.DomError.{DomError}
 use Rattle.wc_config.specs.Configs.{coder_id_of}
 use Rattle.wc_config.specs.declared.config.AudioDecoderConfig.{AudioDecoderConfig}
 use Rattle.codec_definitions.specs.declared.unit.Unit as media

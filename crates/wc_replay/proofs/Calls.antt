@@ -1,8 +1,8 @@
 -- What the calls of callers make: their entry, its effect on the callers' media, and their answer.
-use Rattle.std.proofs.Common.{ℕ, ◌≡◌, ◌∙◌, Bool, true, false, not, List, [], length, Option, Some, None, is_some, refl, ap, sym}
+use Rattle.std.proofs.Common.{ℕ, ◌≡◌, Bool, true, false, not, List, [], length, Option, Some, None, is_some, refl, ap}
 use Rattle.std.specs.Prelude.{option_map, IfSome, if◌then◌else◌}
 use Rattle.wc_base.specs.declared.{error.DomError.DomError, who.Who.Who, media.SoundShape.SoundShape}
-use Rattle.wc_pool.specs.{declared.entry.PoolEntry.PoolEntry, declared.reference.MediaRef.MediaRef, Bag.references_made}
+use Rattle.wc_pool.specs.{declared.reference.MediaRef.MediaRef, Bag.references_made}
 use Rattle.wc_audio.specs.Sound.{Sound}
 use Rattle.codec_model.specs.declared.entry.{Entry.Entry, Call.Call, Handed.Handed, HeldSound.HeldSound}
 use Rattle.codec_model.specs.{Control.Control, Held.adds_held, Shown.exception_of}

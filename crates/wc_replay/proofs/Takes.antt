@@ -1,10 +1,10 @@
 -- What a take of a caller finds and makes, and the move of a step on media.
-use Rattle.std.proofs.Common.{ℕ, zero, suc, ◌≡◌, ◌∙◌, ◌≤◌, true, false, eq-eqb, Option, Some, None, is_some, List, [], ◌∷◌, ◌++◌, length, refl, ap, sym, subst, arith}
-use Rattle.std.specs.Prelude.{slice_get, slice_set, IfSome, IfNone, IfOk, Result, Ok, Err, option_map}
+use Rattle.std.proofs.Common.{ℕ, zero, suc, ◌≡◌, ◌∙◌, ◌≤◌, true, false, eq-eqb, Option, Some, None, List, [], ◌∷◌, ◌++◌, length, refl, ap, sym, subst, arith}
+use Rattle.std.specs.Prelude.{slice_get}
 use Rattle.std.specs.List.{AllByRecursion}
 use Rattle.std.proofs.lemmas.Bool.{ltb-false}
 use Rattle.std.proofs.lemmas.Option.{slice_get_past}
-use Rattle.wc_base.specs.{Options.some_same, declared.error.NoMemory.NoMemory, declared.who.Who.Who}
+use Rattle.wc_base.specs.{Options.some_same, declared.who.Who.Who}
 use Rattle.report_text.specs.declared.result.StepResult.{StepResult}
 use Rattle.codec_accounts.specs.Owed.{append_at}
 use Rattle.codec_definitions.specs.declared.unit.Unit as media
@@ -16,7 +16,7 @@ use Rattle.history_laws.specs.{Outputs.IsWholeUnit, CountLaws.shown_counted, Who
 use Rattle.media_variables.specs.Held.{IsEnoughUnit}
 use Rattle.wc_replay.specs.{declared.desk.Output.Output, Desk.IsDesk, Desk.IsNext}
 use Rattle.wc_replay.proofs.{Desks.seen, Lent.media_same}
-use Rattle.codec_accounts.specs.Codec.{CodecValue, codec_at, codecs_after, slots_by, state_of}
+use Rattle.codec_accounts.specs.Codec.{CodecValue, codec_at, codecs_after, slots_by}
 use Rattle.media_variables.specs.Variables as variables
 use Rattle.media_variables.specs.Variables.{Media, Came, IsCome, media_came, sound_at, taken_came, unit_came, after_came, variables_of}
 use Rattle.trace_text.specs.Follow.{Course, Answer, after_move, take_move, found_at}

@@ -1,5 +1,5 @@
 -- A codec at work in a replay.
-use Rattle.std.specs.Prelude.{ℕ, ◌≡◌, Bool, true, List, [], ◌∷◌, ◌++◌, length, map, Option, Some, None, is_some, option_map, if◌then◌else◌}
+use Rattle.std.specs.Prelude.{ℕ, ◌≡◌, Bool, true, List, [], ◌++◌, map, Option, Some, None, is_some, option_map, if◌then◌else◌}
 use Rattle.coder_api.specs.Lent.{Lent}
 use Rattle.wc_config.specs.declared.codec.CoderId.{CoderId}
 use Rattle.slot_registry.specs.Slots.{SlotsValue}
@@ -8,8 +8,6 @@ use Rattle.codec_model.specs.declared.entry.Entry.{Entry}
 use Rattle.codec_model.specs.{Replay.State, Replay.replay, Control.may_take}
 use Rattle.codec_model.specs.Held.{waiting_held}
 use Rattle.wc_base.specs.declared.who.By.{By}
-use Rattle.wc_base.specs.declared.who.Who.{Who}
-use Rattle.codec_model.specs.declared.entry.Entry.TheVariants as entry
 use Rattle.wc_replay.specs.declared.desk.Output.{Output}
 use Rattle.media_variables.specs.Held.{IsEnoughUnit}
 use Rattle.trace_text.specs.Follow.{output_at, media_by}

@@ -1,4 +1,4 @@
-use Rattle.std.proofs.Common.{◌≡◌, ◌-◌, ◌∙◌, sym, ap, refl, true, not, is_none, ◌&&◌, rules, arith}
+use Rattle.std.proofs.Common.{◌≡◌, ◌-◌, ap, true, not, is_none, ◌&&◌, arith}
 use Rattle.codec_model.specs.Replay.{may_call, removes, call_error}
 use Rattle.codec_accounts.specs.Boxes.{removal_act}
 use Rattle.codec_core.specs.Codec.{Codec, kept_box}

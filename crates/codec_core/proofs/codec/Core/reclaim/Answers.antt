@@ -25,7 +25,6 @@ returns-clause-made g c =
 pub returns-clause-running : goal.returns-clause-running
 returns-clause-running g c = keeps_running true (returns-clause-made g c) refl
 
-
 pub returns-clause-lets : goal.returns-clause-lets
 returns-clause-lets g c =
     back_removal c.args.self.now _ _ false _ _ (returns-clause-made g c) refl (at_home c.self.invariant c.self.view_is) (search rules)

@@ -1,8 +1,7 @@
-use Rattle.std.proofs.Common.{◌≡◌, refl, ◌∙◌, sym, true, false, not, is_none, ◌&&◌, ap, arith}
-use Rattle.std.specs.Prelude.{cond}
+use Rattle.std.proofs.Common.{◌≡◌, refl, true, false, not, is_none, ◌&&◌, arith}
 use Rattle.codec_model.specs.Replay.{may_call, removes, call_error}
 use Rattle.codec_model.specs.StepLaws.{senders_stay}
-use Rattle.codec_core.specs.Codec.{kept_box, places_taken}
+use Rattle.codec_core.specs.Codec.{kept_box}
 use Rattle.codec_core.proofs.Steps.{sent_moves, message_there, senders_take_none, most_reclaims}
 use Rattle.codec_core.proofs.{Owning.keeps_called, Owning.control_at, Replies.core_called, Replies.replied}
 use Rattle.codec_core.proofs.codec.Core.send.Given.{Over}

@@ -1,12 +1,11 @@
-use Rattle.std.proofs.Common.{◌≡◌, ◌∙◌, ◌++◌, ◌∷◌, [], Some, None, is_some, true, refl, ap, sym, rules, arith}
+use Rattle.std.proofs.Common.{◌≡◌, ◌∙◌, ◌++◌, ◌∷◌, [], Some, None, is_some, refl, ap, sym, arith}
 use Rattle.codec_model.specs.{declared.entry.Entry.Entry, Control.start_item}
 use Rattle.codec_accounts.specs.Boxes.{lacking}
-use Rattle.codec_core.specs.declared.out.Out.{Out}
 use Rattle.codec_core.specs.Job.{JobValue, missing_id}
 use Rattle.codec_core.specs.Codec.{Codec, Makes, state_at, went_out}
 use Rattle.codec_core.proofs.Steps.{start_moves, start_job, start_lacks, state_is, makes_more, place_kept}
 use Rattle.codec_core.proofs.{Recorded.core_more, Recorded.next_fits, codec.Core.start.Given.Over}
-use Rattle.codec_core.proofs.Owning.{at_home, control_at, seen, out_start, own_job, back_start}
+use Rattle.codec_core.proofs.Owning.{seen, out_start, own_job, back_start}
 use Rattle.codec_core.proofs.codec.Core.start.Goals as goal
 
 pub start-requires : goal.start-requires

@@ -1,4 +1,4 @@
-use Rattle.std.proofs.Common.{◌≡◌, ◌-◌, ◌∙◌, true, refl, ap, sym, arith, ◌≤◌, length}
+use Rattle.std.proofs.Common.{◌≡◌, ◌-◌, true, refl, ap, arith}
 use Rattle.codec_model.specs.Control.{may_take}
 use Rattle.codec_core.specs.Codec.{Codec}
 use Rattle.codec_core.proofs.Steps.{take_moves, place_kept}

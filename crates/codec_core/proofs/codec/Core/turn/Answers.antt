@@ -30,7 +30,6 @@ returns-clause-some g c = rw (← c.self.view_is, c.push.ensures) (makes_more c.
 pub returns-clause-running : goal.returns-clause-running
 returns-clause-running g c = keeps_running _ (returns-clause-some g c) refl
 
-
 pub returns-clause-lets : goal.returns-clause-lets
 returns-clause-lets g c =
     back_turn c.args.self.now _ c.closes-closes.result c.in_ok-answer.answer.place c.hand_back-coder.result _ (returns-clause-some g c) (rw (control_at c.self.invariant c.self.view_is) (closes_is g c)) (at_home c.self.invariant c.self.view_is) (search rules)

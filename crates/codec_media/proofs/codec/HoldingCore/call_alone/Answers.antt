@@ -1,5 +1,5 @@
-use Rattle.std.proofs.Common.{◌≡◌, ◌∙◌, ap, sym, is_none, ◌&&◌}
-use Rattle.codec_model.specs.{declared.entry.Entry.Entry, Held.is_removal, Replay.removes}
+use Rattle.std.proofs.Common.{◌≡◌, ap}
+use Rattle.codec_model.specs.{declared.entry.Entry.Entry, Held.is_removal}
 use Rattle.codec_core.specs.{Codec.state_at, Codec.ReplyValue, ReplyLaws.removes_by_exception}
 use Rattle.codec_media.proofs.Holds.{call_holds, gone_pairs}
 use Rattle.codec_media.proofs.codec.HoldingCore.call_alone.Given.{Over}

@@ -1,5 +1,5 @@
-use Rattle.std.proofs.Common.{rules, refl, ap, arith, true, false, ◌≡◌, ◌+◌, ◌≤◌, ◌∙◌, vec_len, vec_capacity, deque_len}
-use Rattle.codec_media.proofs.Holds.{more_holds, adds_sends}
+use Rattle.std.proofs.Common.{rules, arith, ◌+◌, ◌≤◌, ◌∙◌, vec_len, vec_capacity, deque_len}
+use Rattle.codec_media.proofs.Holds.{more_holds}
 use Rattle.codec_media.proofs.codec.HoldingCore.call_with.Goals as goal
 
 pub invariant_of-self-in-Ok-call : goal.invariant_of-self-in-Ok-call

@@ -1,4 +1,4 @@
-use Rattle.std.proofs.Common.{rules, arith, refl}
+use Rattle.std.proofs.Common.{rules, refl}
 use Rattle.codec_queues.proofs.{Rising.rising_promised, Roomy.roomy_queued}
 use Rattle.codec_queues.proofs.machine.Machine.send.Goals as goal
 

@@ -1,4 +1,4 @@
-use Rattle.std.proofs.Common.{◌≡◌, ◌∙◌, Some, is_some, ap, sym}
+use Rattle.std.proofs.Common.{◌∙◌, Some, is_some, ap, sym}
 use Rattle.wc_replay.proofs.Takes.{none_next, some_next}
 use Rattle.wc_replay.proofs.desk.Desk.next_output.Goals as goal
 

@@ -1,4 +1,4 @@
-use Rattle.std.proofs.Common.{Option, length, ◌∙◌, sym, subst}
+use Rattle.std.proofs.Common.{Option, length, sym, subst}
 use Rattle.std.specs.Prelude.{Some}
 use Rattle.wc_base.specs.declared.who.By.{By}
 use Rattle.codec_accounts.specs.Codec.{CodecValue, next_by, IsGivable}

@@ -1,4 +1,4 @@
-use Rattle.std.proofs.Common.{◌≡◌, true, Some, subst, sym}
+use Rattle.std.proofs.Common.{Some, subst, sym}
 use Rattle.codec_accounts.specs.Codec.{codec_at}
 use Rattle.trace_text.specs.Follow.{Course}
 use Rattle.wc_replay.specs.Desk.{IsNext}
