@@ -18,7 +18,7 @@ ROOT = pathlib.Path(__file__).resolve().parent.parent
 # Words of the kit, of Rust, of the shell and of the standards that no source of this tree has.
 OTHERS = set("""
 decodeQueueSize encodeQueueSize
-ground hides hypotheses logic plant rattle tidy
+ground hides hypotheses logic plant rattle tidy ulimit
 """.split())
 
 WORD = re.compile(r"(?<![A-Za-z0-9_])[A-Za-z_][A-Za-z0-9_]*")

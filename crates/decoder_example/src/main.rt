@@ -2,8 +2,9 @@
 //! samples that its output has.
 #![tactic(auto)]
 
-ghost use Rattle.std.specs.Prelude.{◌≡◌, ℕ, Option, None, is_some, true};
+ghost use Rattle.std.specs.Prelude.{◌≡◌, None, is_some, true};
 ghost use Rattle.codec_model.specs.Replay.{State};
+ghost use Rattle.codec_core.specs.declared.out.Out.{Out};
 ghost use Rattle.codec_core.specs.Job.{IsJobOf, missing_id};
 ghost use Rattle.codec_core.specs.Owning.{IsOwnJob};
 
@@ -45,7 +46,7 @@ fn chunk() -> Chunk {
 // Gives a job the coder that it lacks, in a box with the number 0.
 fn with_box(mut job: Job<SampleCoder>) -> Job<SampleCoder>
     ensures stays { (s : State) → IsJobOf s job → IsJobOf s result }
-    ensures own { (at : Option ℕ) → IsOwnJob at job → IsOwnJob at result }
+    ensures own { (out : Out) → IsOwnJob out job → IsOwnJob out result }
     ensures empty { is_some (missing_id result) ≡ true → result.coder ≡ None }
 {
     if job.lacks().is_some() {
@@ -78,29 +79,31 @@ fn work(alloc: Global, core: &mut Core<SampleCoder>, moment: u64) {
     }
 }
 
-fn call(core: &mut Core<SampleCoder>, call: Call) -> Result<(), NoMemory> {
-    match core.call(WHO, call) {
-        Ok(_) => Ok(()),
-        Err(_) => Err(NoMemory),
-    }
+// Takes the first output, if one is shown. The take has an entry in the codec's history, as each call has.
+fn take(core: &mut Core<SampleCoder>) -> Result<Option<Unit>, NoMemory> {
+    core.reserve(1)?;
+    let unit = match core.next_output() {
+        Some(unit) => unit.copy()?,
+        None => return Ok(None),
+    };
+    let number = core.taken();
+    core.call(WHO, Call::Take(number))?;
+    Ok(Some(unit))
 }
 
 // The output of the chunk: a configure with its work and two event tasks, a decode with its work and two event tasks, and a
 // take.
 fn decoded(alloc: Global) -> Result<Option<Unit>, NoMemory> {
-    let mut core = Core::open(alloc, Kind::AudioDecoder, 4, 8)?;
-    call(&mut core, Call::Configure(config(alloc)?))?;
+    let mut core = Core::open(alloc, Kind::AudioDecoder, 4, 0)?;
+    core.call(WHO, Call::Configure(config(alloc)?))?;
     work(alloc, &mut core, 1);
     core.turn();
     core.turn();
-    call(&mut core, Call::Decode(chunk()))?;
+    core.call(WHO, Call::Decode(chunk()))?;
     work(alloc, &mut core, 2);
     core.turn();
     core.turn();
-    match core.take(WHO)? {
-        Some(taken) => Ok(Some(taken.unit)),
-        None => Ok(None),
-    }
+    take(&mut core)
 }
 
 // The sample of this number, of 16 bits.
