@@ -1,11 +1,11 @@
 -- A codec with blanks for its outputs takes the same steps, and shows the same where they are filled.
-use Rattle.std.proofs.Common.{ℕ, ◌≡◌, ◌+◌, ◌≤◌, ◌&&◌, Bool, true, false, eqb, cond, List, [], ◌∷◌, ◌++◌, append_assoc, length, length-append, map, take, filter, count_by, Option, Some, None, is_some, refl, ap, sym, ◌∙◌, arith}
+use Rattle.std.proofs.Common.{ℕ, ◌≡◌, ◌+◌, ◌≤◌, ◌&&◌, Bool, true, false, eqb, cond, List, [], ◌∷◌, ◌++◌, append_assoc, length, length-append, map, take, filter, count_by, Option, Some, None, is_some, refl, ap, sym, subst, ◌∙◌, arith}
 use Rattle.std.specs.Prelude.{unwrap_or, option_map}
 use Rattle.std.proofs.lemmas.List.Sums.{length-filter}
 use Rattle.std.proofs.lemmas.List.{append-nil, map-append, length-map, length-replicate}
 use Rattle.std.proofs.lemmas.Option.{option_and_then_some}
 use Rattle.std.proofs.Math.Seq.{take-append_seam}
-use Rattle.wc_base.specs.{declared.who.Who.Who}
+use Rattle.wc_base.specs.{declared.who.Who.Who, Options.some_same}
 use Rattle.wc_config.specs.{declared.config.AudioDecoderConfig.AudioDecoderConfig, declared.kind.Kind.Kind}
 use Rattle.codec_definitions.specs.declared.unit.Unit as media
 use Rattle.codec_model.specs.declared.entry.{Call.Call, Entry.Entry, Handed.Handed, Work.Work, WorkKind.WorkKind}
@@ -14,22 +14,11 @@ use Rattle.codec_model.specs.Control.{Control, is_dequeue, is_desaturate, with_d
 use Rattle.codec_model.specs.Replay.{State, Given, opening_state, replay, replay_from, step, ended_of, accepted, call_error, called, may_call, with_control, removed}
 use Rattle.codec_model.specs.Shown.{shows, outputs_from, turn_shows, shown_from, shown_at, each_shown_from, word_at, units_in, units_shown, outputs_of}
 use Rattle.codec_follow.specs.Follow.{blanks, ended_as, follow_step, follow_from, filled, filled_at, each_filled_from, each_filled}
-use Rattle.codec_follow.specs.Laws.{LegalFollows, LegalFills, UnitsInOrder}
+use Rattle.codec_follow.specs.Erased.{erased_task, erased, erased_state}
+use Rattle.codec_follow.specs.Laws.{LegalFollows, LegalFills, StepsErased, UnitsInOrder}
 use Rattle.history_laws.specs.CountLaws.{length-carried, outputs_tagged}
 use Rattle.codec_model.specs.StepLaws.{task_ran, EachStep, by_removals, by_steps, senders_stay}
 use Rattle.codec_follow.proofs.Answered.{some_is, IsAnswered, Sound, step_sound, opened}
-
-abbrev erased_task : Task → Task
-erased_task (Task.Output units) = Task.Output (blanks (length units))
-erased_task (Task.Flushed promise units) = Task.Flushed promise (blanks (length units))
-erased_task t = t
-
--- blanks carry no config, so none is active
-abbrev erased : Control → Control
-erased c = record c { tasks = map erased_task c.tasks; active = None }
-
-abbrev erased_state : State → State
-erased_state s = record s { control = erased s.control }
 
 abbrev pub erased_end : Ended → Ended
 erased_end (Ended.Ran units) = Ended.Ran (blanks (length units))
@@ -129,6 +118,13 @@ each_erased = record {
 -- One step of a legal history, from blanks.
 step_erased : (e : Entry) (s t : State) → step e s ≡ Some t → Sound s → follow_step e (erased_state s) ≡ Some (erased_state t)
 step_erased = by_steps (λ e s t. Sound s → follow_step e (erased_state s) ≡ Some (erased_state t)) each_erased
+
+sound_from : (h : List Entry) (s t : State) → Sound s → replay_from h s ≡ Some t → Sound t
+sound_from [] s t fine legal = subst Sound (some_same s t legal) fine
+sound_from (e ∷ es) s t fine legal = option_and_then_some (replay_from es) (step e s) t legal (λ u is more. sound_from es u t (step_sound e s u is fine) more)
+
+pub steps_erased : StepsErased
+steps_erased o h s e t legal is = step_erased e s t is (sound_from h (opening_state o) s (opened o) legal)
 
 -- ---- what is shown with blanks, and filled
 

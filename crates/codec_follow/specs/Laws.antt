@@ -1,12 +1,13 @@
 -- What holds between legal histories and histories that follow.
-use Rattle.std.specs.Prelude.{◌≡◌, ◌≤◌, List, length, take}
+use Rattle.std.specs.Prelude.{◌≡◌, ◌≤◌, List, length, take, Some}
 use Rattle.std.specs.List.{AllByRecursion}
 use Rattle.codec_definitions.specs.declared.unit.Unit as media
 use Rattle.codec_model.specs.declared.entry.Opening.{Opening}
 use Rattle.codec_model.specs.declared.entry.Entry.{Entry}
-use Rattle.codec_model.specs.Replay.{IsLegal}
+use Rattle.codec_model.specs.Replay.{State, step, replay, IsLegal}
 use Rattle.codec_model.specs.Shown.{shown, outputs_of, each_shown, units_shown}
-use Rattle.codec_follow.specs.Follow.{IsFollowed, each_filled}
+use Rattle.codec_follow.specs.Follow.{follow_step, IsFollowed, each_filled}
+use Rattle.codec_follow.specs.Erased.{erased_state}
 use Rattle.codec_follow.specs.Outputs.{IsOutputOf, ConfiguresAs}
 
 -- a legal history follows
@@ -16,6 +17,10 @@ LegalFollows = (o : Opening) (h : List Entry) → IsLegal o h → IsFollowed o h
 -- what a legal history shows is what it shows as one that follows, with its own outputs
 abbrev pub LegalFills : Type 0
 LegalFills = (o : Opening) (h : List Entry) → IsLegal o h → each_shown o h ≡ each_filled o h (outputs_of (shown o h))
+
+-- each step of a legal history is followed, with blanks for the outputs
+abbrev pub StepsErased : Type 0
+StepsErased = (o : Opening) (h : List Entry) (s : State) (e : Entry) (t : State) → replay o h ≡ Some s → step e s ≡ Some t → follow_step e (erased_state s) ≡ Some (erased_state t)
 
 -- the units are shown in their order, where they are as many as the outputs or more
 abbrev pub UnitsInOrder : Type 0

@@ -3,3 +3,4 @@ pub mod Outputs
 pub mod Laws
 pub mod Followed
 pub mod Errors
+pub mod Erased

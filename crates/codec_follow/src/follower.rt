@@ -48,6 +48,13 @@ impl Follower {
         })
     }
 
+    /// How many coded messages wait.
+    pub fn size(&self) -> u64
+        ensures { result ≡ self.now.control.size }
+    {
+        self.machine.size()
+    }
+
     /// The next entry: what it shows, with blanks for its outputs. `None` exactly where it does not follow, and then
     /// nothing has changed. An end takes memory for each unit that it tells. After `NoMemory` the follower is of no use.
     pub fn follow(&mut self, entry: &Entry) -> Result<Option<Shown>, NoMemory>

@@ -9,5 +9,8 @@ mod laws;
 mod outputs;
 
 pub use follower::Follower;
-pub use laws::{legal_histories_follow, outputs_are_of_their_kind, served_items_give_no_error};
+pub use laws::{
+    legal_histories_follow, legal_steps_are_followed, outputs_are_of_their_kind,
+    served_items_give_no_error,
+};
 pub use outputs::empty_output;

@@ -6,4 +6,6 @@ pub mod Passages
 pub mod Rule
 pub mod Seats
 pub mod Seen
+pub mod Since
+pub mod SinceLaws
 pub mod Steps

@@ -1,5 +1,7 @@
 -- What a pool's calls say of its references.
-use Rattle.std.specs.Prelude.{ℕ, ◌≡◌, ◌≢◌, Bool, true, List, [], ◌∷◌, ◌++◌, Some}
+use Rattle.std.specs.Prelude.{ℕ, ◌≡◌, ◌≢◌, Bool, true, List, [], ◌∷◌, ◌++◌, Option, Some}
+use Rattle.atomic_table.specs.declared.badge.Badge.{Badge}
+use Rattle.wc_base.specs.declared.seat.View.{View}
 use Rattle.wc_base.specs.declared.who.By.{By}
 use Rattle.wc_pool.specs.declared.entry.PoolEntry.{PoolEntry}
 use Rattle.wc_pool.specs.declared.entry.PoolOp.TheVariants as op
@@ -39,3 +41,6 @@ pub record IsCloneOf (r q : MediaRef) : Type 0 where
   pub same_resource : q.resource ≡ r.resource
   pub same_bytes : q.bytes ≡ r.bytes
   pub apart : q.number ≢ r.number
+
+abbrev pub with_token : Option (Badge (View PoolEntry)) → MediaRef → MediaRef
+with_token token r = record r { token = token }

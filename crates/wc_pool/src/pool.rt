@@ -1,12 +1,12 @@
 // Pools of media resources.
-ghost use Rattle.std.specs.Prelude.{◌≡◌, ◌≢◌, ◌<◌, ◌+◌, ◌^◌, [], Some, true, false, refl};
+ghost use Rattle.std.specs.Prelude.{◌≡◌, ◌≢◌, ◌<◌, ◌+◌, ◌^◌, [], None, Some, true, false, refl};
 ghost use Rattle.std.specs.Prelude.{IfOk, IfSome, OnErr, is_some};
 ghost use Rattle.slab.specs.Slab.{get};
 ghost use Rattle.wc_pool.specs.Shared.{KeyOf, HasResource, AddsOne, DropsOne, less_if};
 ghost use Rattle.wc_pool.specs.declared.pool.Resource.{Resource};
 ghost use Rattle.wc_pool.specs.Bag.{held_in, is_legal_pool, resource_of};
 ghost use Rattle.wc_pool.specs.Pools.{made_by, cloned_by, ended_by, Adds};
-ghost use Rattle.wc_pool.specs.Pools.{IsLive, KeepsAll, KeepsOthers, IsCloneOf};
+ghost use Rattle.wc_pool.specs.Pools.{IsLive, KeepsAll, KeepsOthers, IsCloneOf, with_token};
 ghost use Rattle.wc_pool.specs.declared.reference.MediaRef.{MediaRef};
 ghost use Rattle.wc_pool.specs.declared.entry.PoolEntry.{PoolEntry};
 
@@ -42,7 +42,7 @@ pub trait RefPool {
         ensures err { OnErr result (stays self.old self.new) }
         ensures kept { KeepsAll (is_of self.old) (is_of self.new) };
 
-    /// One more reference to the resource of `r`, which stays as it is. `NoMemory` leaves the pool as
+    /// One more reference to the resource of `r`, which stays as it is but for its token. `NoMemory` leaves the pool as
     /// it was.
     fn clone_ref(&mut self, by: By, r: &mut MediaRef) -> Result<MediaRef, NoMemory>
         requires { is_of self.old r.old }
@@ -50,7 +50,7 @@ pub trait RefPool {
         ensures clone { IfOk result (IsCloneOf r.old) }
         ensures of { IfOk result (is_of self.new) }
         ensures err { OnErr result (stays self.old self.new) }
-        ensures same { r.new ≡ r.old }
+        ensures same { with_token None r.new ≡ with_token None r.old }
         ensures still { is_of self.new r.new }
         ensures kept { KeepsAll (is_of self.old) (is_of self.new) };
 
@@ -239,6 +239,7 @@ impl RefPool for Pool {
             number,
             key,
             bytes,
+            token: None,
         })
     }
 
@@ -263,6 +264,7 @@ impl RefPool for Pool {
             number,
             key,
             bytes,
+            token: None,
         })
     }
 

@@ -5,7 +5,7 @@ ghost use Rattle.std.specs.Prelude.{option_map, is_some, is_none, unwrap_or};
 ghost use Rattle.wc_base.specs.declared.error.DomError.TheVariants as dom;
 ghost use Rattle.picture_planes.specs.Planes.{picture_size};
 ghost use Rattle.wc_pool.specs.Pools.{KeepsAll};
-ghost use Rattle.wc_video.specs.Frames.{is_invalid, content_of, IsHeldOf, IsMadeBy};
+ghost use Rattle.wc_video.specs.Frames.{bare, is_invalid, content_of, IsHeldOf, IsMadeBy};
 ghost use Rattle.wc_video.specs.Frames.{IsCloneBy, IsInitFault, IsCloneFault, Closes, KeepsButHeld};
 
 use bytes::Bytes;
@@ -107,7 +107,7 @@ impl VideoFrame {
         by: By,
     ) -> Result<VideoFrame, MediaFault>
         requires { IsHeldOf (P.is_of pool.old) self.old }
-        ensures same { self.new ≡ self.old }
+        ensures same { bare self.new ≡ bare self.old }
         ensures still { IsHeldOf (P.is_of pool.new) self.new }
         ensures ok { IfOk result (IsCloneBy (P.adds pool.old pool.new) by self.old) }
         ensures of { IfOk result (IsHeldOf (P.is_of pool.new)) }
