@@ -1,4 +1,5 @@
 pub mod Rising
 pub mod Room
 pub mod Carried
+pub mod Counting
 mod Roomy

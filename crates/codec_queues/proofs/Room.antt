@@ -93,3 +93,18 @@ taken_left ms rest m is more i r ts later front back few = rw (front, back) (ome
 
 pub dequeue_weighs : (scheduled : Bool) (ts later : List Task) → later ≡ (if true && not scheduled then ts ++ Task.Dequeue ∷ [] else ts) → sum_by task_weight later ≤ sum_by task_weight ts + 1
 dequeue_weighs scheduled ts later is = rw is (omega (arith, heavier_if Task.Dequeue (not scheduled) ts))
+
+-- as many places as a removal takes are no longer needed
+dequeues_weigh : (ts : List Task) → sum_by task_weight (filter is_dequeue ts) + length ts ≤ sum_by task_weight ts + length (filter is_dequeue ts)
+dequeues_weigh [] = omega arith
+dequeues_weigh (Task.Dequeue ∷ ts) = omega (arith, dequeues_weigh ts, sum_by-cons task_weight Task.Dequeue)
+dequeues_weigh (t ∷ ts) = omega (arith, dequeues_weigh ts, weighs t, sum_by-cons task_weight t ts)
+
+pub cleared_places : (size : ℕ) (scheduled : Bool) (ms : List Message) (is : List Item) (r : Option Running) (ts : List Task) → size ≡ count_by (λ x. is_coded x.work) ms → 7 * 0 + 4 * 0 + running_weight r + sum_by task_weight (if not (size == 0) && not scheduled then filter is_dequeue ts ++ Task.Dequeue ∷ [] else filter is_dequeue ts) + length ts ≤ 7 * length ms + 4 * length is + running_weight r + sum_by task_weight ts + length (filter is_dequeue ts)
+cleared_places size scheduled ms is r ts h = omega (arith, by (size == 0) refl)
+  where
+    by : (b : Bool) → (size == 0) ≡ b → sum_by task_weight (if not b && not scheduled then filter is_dequeue ts ++ Task.Dequeue ∷ [] else filter is_dequeue ts) + length ts ≤ 7 * length ms + sum_by task_weight ts + length (filter is_dequeue ts)
+    by true none = omega (arith, dequeues_weigh ts)
+    by false some =
+        let big : 1 ≤ size = grind (arith, some) in
+        omega (arith, dequeues_weigh ts, big, h, count_by-le-length (λ x. is_coded x.work) ms, heavier_if Task.Dequeue (not scheduled) (filter is_dequeue ts))

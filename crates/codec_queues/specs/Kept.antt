@@ -1,6 +1,5 @@
 -- What the kept queues mean, and the places that they have.
 use Rattle.std.specs.Prelude.{◌≡◌, count_by, ◌+◌, ◌*◌, ◌≤◌, ◌<◌, ◌^◌, length, IfSome}
-use Rattle.std.specs.VecDeque.{deque_capacity}
 use Rattle.codec_model.specs.Control.{Control, is_coded, coded_out, left}
 use Rattle.codec_queues.specs.Rising.{IsRising}
 use Rattle.codec_queues.specs.declared.machine.Machine.TheInside.{Inside}
@@ -10,18 +9,18 @@ control_of m = record {
   place = m.place;
   opening = m.opening;
   phase = m.phase;
-  epoch = m.epoch;
+  epoch = m.queues.epoch;
   key_required = m.key_required;
-  messages = m.messages.items;
+  messages = m.queues.messages;
   blocked = m.blocked;
   saturated = m.saturated;
   halted = m.halted;
   size = m.size;
   pending = m.pending.items;
-  work = m.work.items;
+  work = m.queues.work;
   next_item = m.next_item;
   running = m.running;
-  tasks = m.tasks.items;
+  tasks = m.queues.tasks;
   scheduled = m.scheduled;
   shown = m.shown;
   taken = m.taken;
@@ -34,12 +33,12 @@ control_of m = record {
 pub record IsRoomy (m : Inside) : Type 0 where
   pub counted : left (control_of m) ≤ m.room
   pub small : m.room + 1 < 2 ^ 62
-  pub for_work : m.room ≤ deque_capacity m.work
-  pub for_tasks : m.room + 1 ≤ deque_capacity m.tasks
-  pub epochs : m.epoch ≤ m.place
-  pub ran : IfSome m.running (λ r. r.epoch ≤ m.epoch)
-  pub items : m.next_item + length m.messages.items ≤ m.place
-  pub sizes : m.size ≡ count_by (λ x. is_coded x.work) m.messages.items
+  pub for_work : m.room ≤ m.queues.work_places
+  pub for_tasks : left (control_of m) + 1 ≤ m.queues.task_places
+  pub epochs : m.queues.epoch ≤ m.place
+  pub ran : IfSome m.running (λ r. r.epoch ≤ m.queues.epoch)
+  pub items : m.next_item + length m.queues.messages ≤ m.place
+  pub sizes : m.size ≡ count_by (λ x. is_coded x.work) m.queues.messages
   pub coded : m.coded ≡ coded_out (control_of m)
   pub promises : IsRising m.pending.items m.place
   pub outputs : m.shown ≤ 2 ^ 64 * m.place

@@ -1,4 +1,5 @@
 pub mod Rising
 pub mod Labels
 pub mod Sent
+pub mod Queues
 pub mod Kept

@@ -3,6 +3,7 @@
 ghost use Rattle.std.specs.Prelude.{◌≡◌, Some};
 ghost use Rattle.codec_model.specs.Control.{same_description, is_active, carried, active_after};
 ghost use Rattle.codec_queues.specs.Labels.{first_config, task_label, without_config};
+ghost use Rattle.codec_queues.specs.Queues.{counts};
 
 use bytes::Bytes;
 use codec_model::Task;
@@ -11,46 +12,48 @@ use std::marker::Model;
 use wc_base::List;
 use wc_config::AudioDecoderConfig;
 
-/// A queued event task. Beside it stands a copy of the config that its outputs carry, so that its turn takes no memory. A
-/// contract sees the task alone.
+/// An event task with the epoch in which it was queued. Beside it stands a copy of the config that its outputs carry, so that
+/// its turn takes no memory. A contract sees the epoch and the task.
 #[derive(Drop)]
 pub struct Queued {
+    epoch: u64,
     task: Task,
     label: Option<AudioDecoderConfig>,
 }
 
 impl Model for Queued {
-    ghost use Rattle.codec_model.specs.declared.entry.Task.{Task};
+    ghost use Rattle.codec_queues.specs.Queues.{QueuedTask};
 
-    ghost Value = { Task };
+    ghost Value = { QueuedTask };
 
     ghost use Rattle.std.specs.Prelude.{◌≡◌};
     ghost use Rattle.codec_queues.specs.Labels.{task_label};
 
-    ghost view = { λ q. q.task };
+    ghost view = { λ q. record { epoch = q.epoch; task = q.task } };
 
     ghost invariant = { λ q. q.label ≡ task_label q.task };
 }
 
 impl Queued {
-    /// A task, with a copy of the config that its outputs carry.
-    pub fn new(task: Task, label: Option<AudioDecoderConfig>) -> Queued
+    /// A task of this epoch, with a copy of the config that its outputs carry.
+    pub fn new(epoch: u64, task: Task, label: Option<AudioDecoderConfig>) -> Queued
         requires { label ≡ task_label task }
-        ensures { result ≡ task }
+        ensures { result ≡ record { epoch = epoch; task = task } }
     {
-        Queued { task, label }
+        Queued { epoch, task, label }
     }
 
-    pub fn task(&self) -> &Task
-        ensures { result.now ≡ self.now }
+    /// Whether it counts in an epoch: it is of that epoch, or fires the dequeue event.
+    pub fn counts(&self, epoch: u64) -> bool
+        ensures { result ≡ counts epoch self.now }
     {
-        &self.task
+        self.epoch == epoch || matches!(self.task, Task::Dequeue)
     }
 
     /// The task, and the copy.
     pub fn into_parts(self) -> (Task, Option<AudioDecoderConfig>)
-        ensures task { result.0 ≡ self }
-        ensures label { result.1 ≡ task_label self }
+        ensures task { result.0 ≡ self.task }
+        ensures label { result.1 ≡ task_label self.task }
     {
         (self.task, self.label)
     }

@@ -5,5 +5,6 @@
 mod labels;
 mod machine;
 mod queues;
+mod rings;
 
 pub use machine::Machine;

@@ -6,11 +6,12 @@ ghost use Rattle.codec_model.specs.Shown.{IsAnswer, exception_of, call_shows, ac
 ghost use Rattle.codec_queues.specs.Labels.{label_of};
 ghost use Rattle.codec_queues.specs.Sent.{sent};
 
-use crate::labels::{Queued, carry};
+use crate::labels::carry;
 use crate::queues::{
-    close_answer, halts, keep_dequeues, later, more_coded, promise_if, queue_end, remove_promise,
-    reserve_places, room_for, schedule_dequeue, turn_answer,
+    close_answer, halts, later, more_coded, promise_if, queue_end, remove_promise, reserve_places,
+    room_for, schedule_dequeue, turn_answer,
 };
+use crate::rings::Queues;
 use codec_model::{
     Answer, Call, CodecState, Coded, Ended, Handed, Item, Message, Opening, Running, Showing, Task,
     Work, WorkKind, is_decoder, is_key_chunk,
@@ -33,20 +34,17 @@ pub struct Machine {
     place: u64,
     opening: Opening,
     phase: CodecState,
-    epoch: u64,
     key_required: bool,
-    messages: VecDeque<Message>,
+    queues: Queues,
     blocked: bool,
     saturated: bool,
     halted: bool,
     size: u64,
     pending: VecDeque<u64>,
-    work: VecDeque<Item>,
     next_item: u64,
     running: Option<Running>,
     // The coded items of this epoch that are queued or running.
     coded: usize,
-    tasks: VecDeque<Queued>,
     scheduled: bool,
     // A task shows fewer outputs than 2^64, and there are fewer entries than that.
     shown: u128,
@@ -74,25 +72,22 @@ impl Machine {
     pub fn open(alloc: Global, opening: Opening) -> Result<Machine, NoMemory>
         ensures { IfOk result (λ m. m ≡ opening_control opening) }
     {
-        let tasks = VecDeque::with_capacity(alloc, 1)?;
+        let queues = Queues::open(alloc)?;
         Ok(Machine {
             alloc,
             place: 0,
             opening,
             phase: CodecState::Unconfigured,
-            epoch: 0,
             key_required: true,
-            messages: VecDeque::new(alloc),
+            queues,
             blocked: false,
             saturated: false,
             halted: false,
             size: 0,
             pending: VecDeque::new(alloc),
-            work: VecDeque::new(alloc),
             next_item: 0,
             running: None,
             coded: 0,
-            tasks,
             scheduled: false,
             shown: 0,
             taken: 0,
@@ -134,7 +129,7 @@ impl Machine {
     pub fn epoch(&self) -> u64
         ensures { result ≡ self.now.epoch }
     {
-        self.epoch
+        self.queues.epoch()
     }
 
     /// The queue size that callers see: coded messages that are not yet processed.
@@ -172,7 +167,7 @@ impl Machine {
         if self.running.is_some() || self.halted {
             return None;
         }
-        self.work.front()
+        self.queues.front_item()
     }
 
     /// The error with which a reset or close is refused: `InvalidState` of a closed codec.
@@ -280,7 +275,7 @@ impl Machine {
     fn takes_front(&self) -> bool
         ensures { result ≡ takes_front self.now.messages self.now }
     {
-        match self.messages.front() {
+        match self.queues.front_message() {
             Some(m) => !self.blocked && !(self.saturated && m.work.is_coded()),
             None => false,
         }
@@ -292,7 +287,7 @@ impl Machine {
         ensures after { self.new ≡ process_front self.old.messages self.old }
         ensures left { left self.new ≤ left self.old }
     {
-        if let Some(m) = self.messages.pop_front() {
+        if let Some(m) = self.queues.pop_message() {
             match &m.work {
                 Work::Configure(_) => {
                     self.blocked = true;
@@ -301,11 +296,11 @@ impl Machine {
                     self.coded += 1;
                     self.saturated = self.coded == self.opening.saturation as usize;
                     self.size -= 1;
-                    schedule_dequeue(&mut self.tasks, &mut self.scheduled, true);
+                    schedule_dequeue(&mut self.queues, &mut self.scheduled, true);
                 }
                 Work::Flush => {}
             }
-            self.work.push_back_reserved(Item {
+            self.queues.push_item(Item {
                 number: self.next_item,
                 place: m.place,
                 work: m.work,
@@ -335,14 +330,12 @@ impl Machine {
         ensures left { left self.new ≤ left self.old + 7 }
         ensures err { OnErr result (self.new ≡ self.old) }
     {
-        let room = room_for(self.messages.len(), self.work.len(), self.tasks.len())?;
-        reserve_places(
-            &mut self.messages,
-            &mut self.pending,
-            &mut self.work,
-            &mut self.tasks,
-            room,
+        let room = room_for(
+            self.queues.message_count(),
+            self.queues.item_count(),
+            self.queues.task_count(),
         )?;
+        reserve_places(&mut self.queues, &mut self.pending, room)?;
         self.room = room;
         let place = self.place;
         self.place += 1;
@@ -350,7 +343,7 @@ impl Machine {
         self.key_required = key_required;
         self.size = more_coded(self.size, &work);
         promise_if(&mut self.pending, &work, place);
-        self.messages.push_back_reserved(Message { place, work });
+        self.queues.push_message(Message { place, work });
         self.process();
         Ok(())
     }
@@ -368,10 +361,10 @@ impl Machine {
         if self.running.is_some() || self.halted {
             return None;
         }
-        let item = self.work.pop_front()?;
+        let item = self.queues.pop_item()?;
         self.place += 1;
         self.running = Some(Running {
-            epoch: self.epoch,
+            epoch: self.queues.epoch(),
             number: item.number,
             place: item.place,
             kind: item.work.kind(),
@@ -390,13 +383,13 @@ impl Machine {
         if let Some(r) = self.running {
             self.running = None;
             self.place += 1;
-            if r.epoch == self.epoch {
+            if r.epoch == self.queues.epoch() {
                 if r.kind == WorkKind::Coded {
                     self.coded -= 1;
                 }
                 self.progress = Some(later(self.progress, moment));
                 self.halted = halts(&ended) || self.halted;
-                queue_end(&mut self.tasks, self.saturated, r, ended, label);
+                queue_end(&mut self.queues, self.saturated, r, ended, label);
             }
         }
     }
@@ -409,20 +402,17 @@ impl Machine {
         ensures left { left self.new ≤ left self.old }
     {
         self.phase = CodecState::Unconfigured;
-        self.epoch += 1;
         self.blocked = false;
         self.saturated = false;
         self.halted = false;
         self.active = None;
         self.progress = None;
-        self.messages.clear();
-        self.work.clear();
+        self.queues.remove_all();
         self.next_item = 0;
         self.coded = 0;
-        keep_dequeues(&mut self.tasks);
         let sized = self.size != 0;
         self.size = 0;
-        schedule_dequeue(&mut self.tasks, &mut self.scheduled, sized);
+        schedule_dequeue(&mut self.queues, &mut self.scheduled, sized);
         let pending = mem::replace(&mut self.pending, VecDeque::new(self.alloc));
         List::of(pending.into_vec())
     }
@@ -477,14 +467,13 @@ impl Machine {
             })) }
         ensures left { OnSome result (left self.new + 1 ≤ left self.old) }
     {
-        let (task, label) = self.tasks.pop_front()?.into_parts();
+        let (task, label) = self.queues.pop_task()?;
         let (place, outputs) = (self.place, self.shown);
         self.place += 1;
         match task {
             Task::Unblock => {
                 self.blocked = false;
-                self.tasks
-                    .push_back_reserved(Queued::new(Task::Process, None));
+                self.queues.push_task(Task::Process, None);
                 Some(turn_answer(place, Task::Unblock, outputs))
             }
             Task::Process => {

@@ -1,14 +1,15 @@
 // Plain work on the queues, apart from the codec that has them.
 ghost use Rattle.std.specs.Prelude.{ℕ, ◌≡◌, ◌<◌, ◌≤◌, ◌*◌, ◌+◌, ◌^◌, ◌++◌, ◌∷◌, [], max, length, count_by, filter, not, ◌==◌, ◌&&◌, ◌||◌, if◌then◌else◌, unwrap_or, OnOk, IfOk, None, Some, true, false, cond};
 ghost use Rattle.std.specs.VecDeque.{deque_len, deque_capacity};
-ghost use Rattle.codec_model.specs.Control.{is_coded, is_dequeue, is_desaturate, refusal_of, with_ran, with_desaturate, with_output, with_end, halts};
+ghost use Rattle.codec_model.specs.Control.{is_coded, refusal_of, with_ran, with_desaturate, with_output, with_end, halts};
 ghost use Rattle.codec_model.specs.Shown.{IsAnswer, word_of_task, task_shows, close_shows, closes};
 ghost use Rattle.codec_queues.specs.Rising.{IsRising};
 ghost use Rattle.codec_queues.specs.Sent.{promised};
 ghost use Rattle.codec_queues.specs.Labels.{first_config, label_of};
+ghost use Rattle.codec_queues.specs.Queues.{with_places, with_tasks};
 
-use crate::labels::Queued;
-use codec_model::{Answer, Ended, Item, Message, Running, Showing, Task, TurnWord, Work, WorkKind};
+use crate::rings::Queues;
+use codec_model::{Answer, Ended, Running, Showing, Task, TurnWord, Work, WorkKind};
 use coder_api::Unit;
 use std::collections::VecDeque;
 use wc_base::{DomError, List, NoMemory};
@@ -24,52 +25,18 @@ pub fn refusal_error(kind: WorkKind) -> DomError
     }
 }
 
-fn is_desaturate_task(queued: &Queued) -> bool
-    ensures { result ≡ is_desaturate queued.now }
-{
-    matches!(queued.task(), Task::Desaturate)
-}
-
-/// How many of the tasks desaturate the codec.
-pub fn desaturates(tasks: &VecDeque<Queued>) -> usize
-    ensures { result ≡ count_by is_desaturate tasks.now.items }
-{
-    let mut n = 0;
-    for i in 0..tasks.len() {
-        if is_desaturate_task(&tasks[i]) {
-            n += 1;
-        }
-    }
-    n
-}
-
 /// Queues a dequeue event where it is wanted and none is scheduled.
-pub fn schedule_dequeue(tasks: &mut VecDeque<Queued>, scheduled: &mut bool, wanted: bool)
-    requires { deque_len tasks.old < deque_capacity tasks.old }
-    ensures items { tasks.new.items
-        ≡
-        (if wanted && not scheduled.old then tasks.old.items
-        ++ Task.Dequeue ∷ [] else tasks.old.items) }
+pub fn schedule_dequeue(queues: &mut Queues, scheduled: &mut bool, wanted: bool)
+    requires { length queues.old.tasks < queues.old.task_places }
+    ensures queues { queues.new
+        ≡ with_tasks (if wanted && not scheduled.old then queues.old.tasks
+        ++ Task.Dequeue ∷ [] else queues.old.tasks) queues.old }
     ensures scheduled { scheduled.new ≡ (wanted || scheduled.old) }
-    ensures capacity { deque_capacity tasks.new ≡ deque_capacity tasks.old }
 {
     if wanted && !*scheduled {
         *scheduled = true;
-        tasks.push_back_reserved(Queued::new(Task::Dequeue, None));
+        queues.push_task(Task::Dequeue, None);
     }
-}
-
-fn is_dequeue_task(queued: &Queued) -> bool
-    ensures { result ≡ is_dequeue queued.now }
-{
-    matches!(queued.task(), Task::Dequeue)
-}
-
-pub fn keep_dequeues(tasks: &mut VecDeque<Queued>)
-    ensures items { tasks.new.items ≡ filter is_dequeue tasks.old.items }
-    ensures capacity { deque_capacity tasks.new ≡ deque_capacity tasks.old }
-{
-    tasks.retain(|t| is_dequeue_task(t));
 }
 
 /// Takes out a promise. Flushes end in the order of their calls, so it is the first one.
@@ -87,80 +54,75 @@ pub fn remove_promise(pending: &mut VecDeque<u64>, promise: u64)
 
 /// The end of an item that ran is queued.
 fn queue_ran(
-    tasks: &mut VecDeque<Queued>,
+    queues: &mut Queues,
     saturated: bool,
     running: Running,
     units: List<Unit>,
     label: Option<AudioDecoderConfig>,
 )
-    requires room { deque_len tasks.old + 2 ≤ deque_capacity tasks.old }
+    requires room { length queues.old.tasks + 2 ≤ queues.old.task_places }
     requires label { label ≡ first_config units }
-    ensures items { tasks.new.items ≡ with_ran running units saturated tasks.old.items }
-    ensures capacity { deque_capacity tasks.new ≡ deque_capacity tasks.old }
+    ensures { queues.new
+        ≡ with_tasks (with_ran running units saturated queues.old.tasks) queues.old }
 {
     match running.kind {
-        WorkKind::Configure => {
-            tasks.push_back_reserved(Queued::new(Task::Unblock, None));
-        }
+        WorkKind::Configure => queues.push_task(Task::Unblock, None),
         WorkKind::Coded => {
-            queue_desaturate(tasks, saturated);
-            queue_output(tasks, units, label);
+            queue_desaturate(queues, saturated);
+            queue_output(queues, units, label);
         }
         WorkKind::Flush => {
             let promise = running.place;
-            tasks.push_back_reserved(Queued::new(Task::Flushed { promise, units }, label));
+            queues.push_task(Task::Flushed { promise, units }, label);
         }
     }
 }
 
-fn queue_desaturate(tasks: &mut VecDeque<Queued>, saturated: bool)
-    requires { deque_len tasks.old < deque_capacity tasks.old }
-    ensures items { tasks.new.items ≡ with_desaturate saturated tasks.old.items }
-    ensures len { deque_len tasks.new ≤ deque_len tasks.old + 1 }
-    ensures capacity { deque_capacity tasks.new ≡ deque_capacity tasks.old }
+fn queue_desaturate(queues: &mut Queues, saturated: bool)
+    requires { length queues.old.tasks < queues.old.task_places }
+    ensures queues { queues.new ≡ with_tasks (with_desaturate saturated queues.old.tasks) queues.old }
+    ensures len { length queues.new.tasks ≤ length queues.old.tasks + 1 }
 {
-    if saturated && desaturates(tasks) == 0 {
-        tasks.push_back_reserved(Queued::new(Task::Desaturate, None));
+    if saturated && !queues.desaturates() {
+        queues.push_task(Task::Desaturate, None);
     }
 }
 
-fn queue_output(tasks: &mut VecDeque<Queued>, units: List<Unit>, label: Option<AudioDecoderConfig>)
-    requires room { deque_len tasks.old < deque_capacity tasks.old }
+fn queue_output(queues: &mut Queues, units: List<Unit>, label: Option<AudioDecoderConfig>)
+    requires room { length queues.old.tasks < queues.old.task_places }
     requires label { label ≡ first_config units }
-    ensures items { tasks.new.items ≡ with_output units tasks.old.items }
-    ensures capacity { deque_capacity tasks.new ≡ deque_capacity tasks.old }
+    ensures { queues.new ≡ with_tasks (with_output units queues.old.tasks) queues.old }
 {
     if !units.is_empty() {
-        tasks.push_back_reserved(Queued::new(Task::Output(units), label));
+        queues.push_task(Task::Output(units), label);
     }
 }
 
-fn queue_close(tasks: &mut VecDeque<Queued>, error: DomError)
-    requires { deque_len tasks.old < deque_capacity tasks.old }
-    ensures items { tasks.new.items ≡ tasks.old.items ++ Task.Close error ∷ [] }
-    ensures capacity { deque_capacity tasks.new ≡ deque_capacity tasks.old }
+fn queue_close(queues: &mut Queues, error: DomError)
+    requires { length queues.old.tasks < queues.old.task_places }
+    ensures { queues.new ≡ with_tasks (queues.old.tasks ++ Task.Close error ∷ []) queues.old }
 {
-    tasks.push_back_reserved(Queued::new(Task::Close(error), None));
+    queues.push_task(Task::Close(error), None);
 }
 
 /// The end of an item of this epoch is queued, with a copy of the config that its outputs carry.
 pub fn queue_end(
-    tasks: &mut VecDeque<Queued>,
+    queues: &mut Queues,
     saturated: bool,
     running: Running,
     ended: Ended,
     label: Option<AudioDecoderConfig>,
 )
-    requires room { deque_len tasks.old + 2 ≤ deque_capacity tasks.old }
+    requires room { length queues.old.tasks + 2 ≤ queues.old.task_places }
     requires label { label ≡ label_of ended }
-    ensures items { tasks.new.items ≡ with_end running ended saturated tasks.old.items }
-    ensures capacity { deque_capacity tasks.new ≡ deque_capacity tasks.old }
+    ensures { queues.new
+        ≡ with_tasks (with_end running ended saturated queues.old.tasks) queues.old }
 {
     match ended {
-        Ended::Ran(units) => queue_ran(tasks, saturated, running, units, label),
-        Ended::Refused => queue_close(tasks, refusal_error(running.kind)),
-        Ended::NoSlot(_) => queue_close(tasks, DomError::QuotaExceeded),
-        Ended::NoMemory => queue_close(tasks, DomError::OutOfMemory),
+        Ended::Ran(units) => queue_ran(queues, saturated, running, units, label),
+        Ended::Refused => queue_close(queues, refusal_error(running.kind)),
+        Ended::NoSlot(_) => queue_close(queues, DomError::QuotaExceeded),
+        Ended::NoMemory => queue_close(queues, DomError::OutOfMemory),
     }
 }
 
@@ -232,29 +194,23 @@ pub fn room_for(messages: usize, work: usize, tasks: usize) -> Result<usize, NoM
 
 /// Takes a place in each queue for a message and for all that comes of it.
 pub fn reserve_places(
-    messages: &mut VecDeque<Message>,
+    queues: &mut Queues,
     pending: &mut VecDeque<u64>,
-    work: &mut VecDeque<Item>,
-    tasks: &mut VecDeque<Queued>,
     room: usize,
 ) -> Result<(), NoMemory>
     requires { room + 1 < 2 ^ 62 }
-    ensures messages { messages.new.items ≡ messages.old.items }
+    ensures same { queues.new ≡ with_places queues.new queues.old }
     ensures pending { pending.new.items ≡ pending.old.items }
-    ensures work { work.new.items ≡ work.old.items }
-    ensures tasks { tasks.new.items ≡ tasks.old.items }
-    ensures for_work { OnOk result (room ≤ deque_capacity work.new) }
-    ensures for_tasks { OnOk result (room + 1 ≤ deque_capacity tasks.new) }
-    ensures for_message { OnOk result (deque_len messages.new < deque_capacity messages.new) }
+    ensures for_work { OnOk result (room ≤ queues.new.work_places) }
+    ensures for_tasks { OnOk result (room + 1 ≤ queues.new.task_places) }
+    ensures for_message { OnOk result
+        (length queues.new.messages < queues.new.message_places) }
     ensures for_pending { OnOk result (deque_len pending.new < deque_capacity pending.new) }
-    ensures work_grows { deque_capacity work.old ≤ deque_capacity work.new }
-    ensures tasks_grow { deque_capacity tasks.old ≤ deque_capacity tasks.new }
+    ensures work_grows { queues.old.work_places ≤ queues.new.work_places }
+    ensures tasks_grow { queues.old.task_places ≤ queues.new.task_places }
 {
-    messages.reserve(1)?;
     pending.reserve(1)?;
-    work.reserve(room)?;
-    tasks.reserve(room + 1)?;
-    Ok(())
+    queues.reserve(room)
 }
 
 /// So many coded messages, with one more where this is one.
