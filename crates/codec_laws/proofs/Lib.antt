@@ -1,0 +1,16 @@
+pub mod Course
+pub mod FlowLaws
+pub mod OutLaws
+pub mod PlaceLaws
+pub mod OldLaws
+pub mod FallLaws
+pub mod HearLaws
+pub mod SameLaws
+pub mod PromiseLaws
+pub mod EndLaws
+pub mod AlikeLaws
+pub mod FlushLaws
+pub mod RejectLaws
+pub mod OnlyLaws
+pub mod SeenLaws
+pub mod BookLaws

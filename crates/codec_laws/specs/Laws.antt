@@ -1,0 +1,129 @@
+-- The laws by places, of every legal history (our choice; W3C WebCodecs says them by its algorithms alone).
+use Rattle.std.specs.Prelude.{ℕ, ◌≡◌, ◌≤◌, ◌<◌, ◌+◌, ◌&&◌, ◌⊎◌, Bool, true, List, [], ◌∷◌, ◌++◌, take, slice_get, Some, None, is_some, is_none, unwrap_or, option_map}
+use Rattle.wc_base.specs.declared.error.DomError.{DomError}
+use Rattle.wc_base.specs.declared.error.DomError.TheVariants as dom
+use Rattle.codec_model.specs.declared.entry.Opening.{Opening}
+use Rattle.codec_model.specs.declared.entry.Call.{Call}
+use Rattle.codec_model.specs.declared.entry.Call.TheVariants as call
+use Rattle.codec_model.specs.declared.entry.HeldSound.{HeldSound}
+use Rattle.codec_model.specs.declared.entry.Entry.{Entry}
+use Rattle.codec_model.specs.declared.entry.Entry.TheVariants as entry
+use Rattle.codec_model.specs.declared.entry.Handed.TheVariants as handed
+use Rattle.codec_model.specs.declared.entry.WorkKind.TheVariants as kind
+use Rattle.codec_model.specs.declared.entry.PromiseState.{PromiseState}
+use Rattle.codec_model.specs.declared.entry.PromiseState.TheVariants as promise
+use Rattle.codec_model.specs.Replay.{State, replay, IsLegal}
+use Rattle.codec_model.specs.Shown.{shown, outputs_of}
+use Rattle.codec_model.specs.Facts.{IsQuiet}
+use Rattle.codec_laws.specs.declared.sight.Sight.{Sight}
+use Rattle.codec_laws.specs.declared.source.Output.{Output}
+use Rattle.codec_laws.specs.Sights.{sights, falls_at, dequeues_at, removes_at, asks_at, NoneRemoves}
+use Rattle.codec_laws.specs.Sources.{outputs, own_ends, ends_in, end_at, end_from}
+
+-- ---- nothing old
+
+-- The call that gave an output stands between the configure of its configuration and the turn that shows it, and no
+-- removal stands there.
+pub record IsOwn (xs : List Sight) (y : Output) : Type 0 where
+  pub before : y.source.configure < y.source.call
+  pub after : y.source.call < y.turn
+  pub configures : asks_at xs y.source.configure ≡ Some kind.Configure
+  pub asks : is_some (asks_at xs y.source.call) ≡ true
+  pub none_removes : NoneRemoves xs y.source.configure y.turn
+
+-- each output is of the configuration that stands when it is shown
+abbrev pub NothingOld : Type 0
+NothingOld = (o : Opening) (h : List Entry) → IsLegal o h → (n : ℕ) (y : Output) → slice_get (outputs (sights o h)) n ≡ Some y → IsOwn (sights o h) y
+
+-- a flush that is pending at a removal is rejected there, once
+abbrev pub RemovalsReject : Type 0
+RemovalsReject = (o : Opening) (h : List Entry) → IsLegal o h → (p k : ℕ) (x : Sight) (error : DomError) → asks_at (sights o h) p ≡ Some kind.Flush → p < k → ends_in p (take k (sights o h)) ≡ 0 → slice_get (sights o h) k ≡ Some x → x.removes ≡ Some error
+    → (own_ends p x.ends ≡ 1) × (end_at p k x.ends ≡ Some (k, promise.Rejected error))
+
+-- ---- flushes
+
+-- a promise has one end at most
+abbrev pub EndsOnce : Type 0
+EndsOnce = (o : Opening) (h : List Entry) → IsLegal o h → (p : ℕ) → ends_in p (sights o h) ≤ 1
+
+-- its flush was refused: it is rejected at its own place
+pub record IsRefusedThere (xs : List Sight) (p t : ℕ) (error : DomError) : Type 0 where
+  pub own : t ≡ p
+  pub refused : asks_at xs p ≡ None
+  pub invalid : error ≡ dom.InvalidState
+
+-- its flush was accepted: the first removal behind it rejects it, with the removal's error
+pub record IsRemovedThere (xs : List Sight) (p t : ℕ) (error : DomError) : Type 0 where
+  pub accepted : asks_at xs p ≡ Some kind.Flush
+  pub after : p < t
+  pub none_removes : NoneRemoves xs p t
+  pub removes : removes_at xs t ≡ Some error
+
+abbrev pub IsRejected : List Sight → ℕ → ℕ → DomError → Type 0
+IsRejected xs p t error = IsRefusedThere xs p t error ⊎ IsRemovedThere xs p t error
+
+-- a promise is rejected at its own place, or by the first removal after it
+abbrev pub RejectedOnly : Type 0
+RejectedOnly = (o : Opening) (h : List Entry) → IsLegal o h → (p t : ℕ) (error : DomError) → end_from p 0 (sights o h) ≡ Some (t, promise.Rejected error) → IsRejected (sights o h) p t error
+
+-- ---- dequeue
+
+-- at a place between two others the size falls
+pub record FallsBetween (xs : List Sight) (i j : ℕ) : Type 0 where
+  pub place : ℕ
+  pub after : i < place
+  pub before : place < j
+  pub falls : falls_at xs place ≡ true
+
+-- between two dequeue events the size falls
+abbrev pub SizeFalls : Type 0
+SizeFalls = (o : Opening) (h : List Entry) → 1 ≤ o.saturation → IsLegal o h → (i j : ℕ) → i < j → dequeues_at (sights o h) i ≡ true → dequeues_at (sights o h) j ≡ true → FallsBetween (sights o h) i j
+
+-- ---- same outputs
+
+-- samples with no reference to them
+abbrev pub unnamed : HeldSound → HeldSound
+unnamed sound = record sound { pair = record { resource = 0; reference = 0 } }
+
+-- what a call asks for or would ask for, apart from who makes it; an encode's data apart from its reference
+abbrev pub call_alone : Entry → List Call
+call_alone (entry.Call who (call.Configure config)) = call.Configure config ∷ []
+call_alone (entry.Call who (call.Decode chunk)) = call.Decode chunk ∷ []
+call_alone (entry.Call who (call.Encode handed.Gone)) = call.Encode handed.Gone ∷ []
+call_alone (entry.Call who (call.Encode handed.Kept)) = call.Encode handed.Kept ∷ []
+call_alone (entry.Call who (call.Encode (handed.Cloned sound))) = call.Encode (handed.Cloned (unnamed sound)) ∷ []
+call_alone (entry.Call who call.Flush) = call.Flush ∷ []
+call_alone e = []
+
+abbrev pub calls_alone : List Entry → List Call
+calls_alone [] = []
+calls_alone (e ∷ es) = call_alone e ++ calls_alone es
+
+-- no removal stands there
+abbrev pub is_calm : List Sight → Bool
+is_calm [] = true
+is_calm (x ∷ xs) = is_none x.removes && is_calm xs
+
+-- the ends of flushes, one after another
+abbrev pub flush_ends_from : ℕ → List Entry → List Sight → List PromiseState
+flush_ends_from place [] xs = []
+flush_ends_from place (entry.Call who call.Flush ∷ es) xs = unwrap_or (option_map (λ (e : ℕ × PromiseState). e.1) (end_from place 0 xs)) promise.Pending ∷ flush_ends_from (place + 1) es xs
+flush_ends_from place (e ∷ es) xs = flush_ends_from (place + 1) es xs
+
+abbrev pub flush_ends : Opening → List Entry → List PromiseState
+flush_ends o h = flush_ends_from 0 h (sights o h)
+
+-- a calm history that ends quiet
+pub record EndsCalm (o : Opening) (h : List Entry) : Type 0 where
+  pub state : State
+  pub replays : replay o h ≡ Some state
+  pub quiet : IsQuiet state.control
+  pub calm : is_calm (sights o h) ≡ true
+
+-- two calm histories of one opening, with the same calls, show the same outputs, and their flushes end alike
+pub record ShowSame (o : Opening) (g h : List Entry) : Type 0 where
+  pub outputs : outputs_of (shown o g) ≡ outputs_of (shown o h)
+  pub ends : flush_ends o g ≡ flush_ends o h
+
+abbrev pub SameShown : Type 0
+SameShown = (o : Opening) (g h : List Entry) → 1 ≤ o.saturation → EndsCalm o g → EndsCalm o h → calls_alone g ≡ calls_alone h → ShowSame o g h

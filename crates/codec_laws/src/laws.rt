@@ -1,0 +1,42 @@
+// Laws of every legal history.
+ghost use Rattle.codec_laws.specs.Laws.{NothingOld, RemovalsReject, RejectedOnly, EndsOnce, SizeFalls, SameShown};
+
+use codec_model::never_stuck;
+
+/// Law: nothing old is shown. Between the configure of an output's configuration and the turn that shows it stands the call
+/// that gave it, and no removal: no reset or close that is not refused, no reclaim, and no turn that closes the codec.
+pub fn nothing_old()
+    ensures { NothingOld }
+{}
+
+/// Law: a flush that is pending at a removal is rejected there, once, with the removal's error.
+pub fn removals_reject()
+    ensures { RemovalsReject }
+{}
+
+/// Law: a promise is rejected with InvalidState at the place of its flush, where this is refused; otherwise by the first removal
+/// after it, with that removal's error.
+pub fn rejected_only_by_removals()
+    ensures { RejectedOnly }
+{}
+
+/// Law: a promise ends at most once.
+pub fn promises_end_once()
+    ensures { EndsOnce }
+{}
+
+/// Law: between two dequeue events the size falls.
+pub fn size_falls_between()
+    ensures { SizeFalls }
+{
+    never_stuck();
+}
+
+/// Law: two histories of one opening with the same calls, in which no removal stands and which end quiet, show the same
+/// outputs in order, and their flushes end alike. Who makes a call, the references of encodes, takes, and the places and
+/// moments of all other entries may differ.
+pub fn same_calls_show_the_same()
+    ensures { SameShown }
+{
+    never_stuck();
+}

@@ -1,0 +1,18 @@
+//! Laws of one codec's history by the places of its entries, as a reader of a report sees them.
+#![tactic(auto)]
+
+mod answers;
+mod book;
+mod laws;
+mod seen;
+mod sight;
+mod source;
+
+pub use answers::{output_configuration, output_source, promise_end};
+pub use laws::{
+    nothing_old, promises_end_once, rejected_only_by_removals, removals_reject,
+    same_calls_show_the_same, size_falls_between,
+};
+pub use seen::sights;
+pub use sight::{Ran, Sight};
+pub use source::{Output, Source};
