@@ -1,3 +1,4 @@
+pub mod ClaimLaws
 pub mod Claims
 pub mod Lends
 pub mod Logs

@@ -8,16 +8,16 @@ use Rattle.wc_pool.specs.declared.reference.MediaRef.{MediaRef}
 use Rattle.wc_pool.specs.declared.entry.PoolEntry.{PoolEntry}
 use Rattle.wc_pool.specs.declared.entry.MediaFault.{MediaFault}
 use Rattle.wc_pool.specs.declared.entry.MediaFault.TheVariants as fault
-use Rattle.wc_pool.specs.Pools.{made_by, cloned_by, ended_by, KeepsAll, KeepsOthers, IsCloneOf, with_token}
+use Rattle.wc_pool.specs.Pools.{made_by, cloned_by, ended_by, KeepsAll, KeepsOthers, IsCloneOf}
 
 -- its shape, and the reference that it holds; none where it is detached
 pub record Sound : Type 0 where
   pub shape : SoundShape
   pub held : Option MediaRef
 
--- the data but for the token of its reference
-abbrev pub bare : Sound → Sound
-bare d = record { shape = d.shape; held = option_map (with_token None) d.held }
+-- the data with so much of its reference
+abbrev pub held_as : (MediaRef → MediaRef) → Sound → Sound
+held_as part s = record { shape = s.shape; held = option_map part s.held }
 
 -- as many bytes as a shape needs
 abbrev pub needed : SoundShape → ℕ

@@ -5,7 +5,7 @@ ghost use Rattle.std.specs.Prelude.{option_map, is_some, is_none, unwrap_or};
 ghost use Rattle.codec_definitions.specs.Pcm.{is_whole};
 ghost use Rattle.wc_base.specs.declared.error.DomError.TheVariants as dom;
 ghost use Rattle.wc_pool.specs.Pools.{KeepsAll};
-ghost use Rattle.wc_audio.specs.Sound.{bare, needed, is_invalid, content_of, IsHeldOf, IsMadeBy};
+ghost use Rattle.wc_audio.specs.Sound.{held_as, needed, is_invalid, content_of, IsHeldOf, IsMadeBy};
 ghost use Rattle.wc_audio.specs.Sound.{IsCloneBy, IsInitFault, IsCloneFault, Closes, KeepsButHeld};
 
 use bytes::Bytes;
@@ -102,10 +102,11 @@ impl AudioData {
     }
 
     /// Open data with a second reference to the same resource, and the same shape (W3C WebCodecs,
-    /// AudioData, `clone`). `InvalidState` comes exactly where it is detached.
+    /// AudioData, `clone`). `InvalidState` comes exactly where it is detached. The data stays as it is,
+    /// but for what the pool does not keep of a reference that is cloned.
     pub fn clone_data<P: RefPool>(&mut self, pool: &mut P, by: By) -> Result<AudioData, MediaFault>
         requires { IsHeldOf (P.is_of pool.old) self.old }
-        ensures same { bare self.new ≡ bare self.old }
+        ensures same { held_as P.lasting self.new ≡ held_as P.lasting self.old }
         ensures still { IsHeldOf (P.is_of pool.new) self.new }
         ensures ok { IfOk result (IsCloneBy (P.adds pool.old pool.new) by self.old) }
         ensures of { IfOk result (IsHeldOf (P.is_of pool.new)) }

@@ -1,6 +1,7 @@
 // Pools of media resources.
 ghost use Rattle.std.specs.Prelude.{◌≡◌, ◌≢◌, ◌<◌, ◌+◌, ◌^◌, [], None, Some, true, false, refl};
 ghost use Rattle.std.specs.Prelude.{IfOk, IfSome, OnErr, is_some};
+ghost use Rattle.std.proofs.Common.{ap};
 ghost use Rattle.slab.specs.Slab.{get};
 ghost use Rattle.wc_pool.specs.Shared.{KeyOf, HasResource, AddsOne, DropsOne, less_if};
 ghost use Rattle.wc_pool.specs.declared.pool.Resource.{Resource};
@@ -33,6 +34,12 @@ pub trait RefPool {
     /// With no call there is no entry.
     ghost rests: { (pool : Self) → stays pool pool };
 
+    /// What of a reference stays as it is where it is cloned.
+    ghost lasting: { MediaRef → MediaRef };
+
+    /// That is all but its token.
+    ghost lasts: { (r q : MediaRef) → lasting r ≡ lasting q → with_token None r ≡ with_token None q };
+
     /// A new resource with these bytes, and its first reference. Both have the next number of their
     /// kind. `NoMemory` leaves the pool as it was.
     fn make(&mut self, by: By, bytes: Bytes) -> Result<MediaRef, NoMemory>
@@ -42,15 +49,15 @@ pub trait RefPool {
         ensures err { OnErr result (stays self.old self.new) }
         ensures kept { KeepsAll (is_of self.old) (is_of self.new) };
 
-    /// One more reference to the resource of `r`, which stays as it is but for its token. `NoMemory` leaves the pool as
-    /// it was.
+    /// One more reference to the resource of `r`, of which all that is lasting stays as it is: at the
+    /// least all but its token. `NoMemory` leaves the pool as it was.
     fn clone_ref(&mut self, by: By, r: &mut MediaRef) -> Result<MediaRef, NoMemory>
         requires { is_of self.old r.old }
         ensures made { IfOk result (λ q. adds self.old self.new (cloned_by by q)) }
         ensures clone { IfOk result (IsCloneOf r.old) }
         ensures of { IfOk result (is_of self.new) }
         ensures err { OnErr result (stays self.old self.new) }
-        ensures same { with_token None r.new ≡ with_token None r.old }
+        ensures same { lasting r.new ≡ lasting r.old }
         ensures still { is_of self.new r.new }
         ensures kept { KeepsAll (is_of self.old) (is_of self.new) };
 
@@ -213,6 +220,10 @@ impl RefPool for Pool {
     ghost stays = { λ old new. new ≡ old };
 
     ghost rests = { λ pool. refl };
+
+    ghost lasting = { λ r. r };
+
+    ghost lasts = { λ r q same. ap (with_token None) same };
 
     fn make(&mut self, by: By, bytes: Bytes) -> Result<MediaRef, NoMemory> {
         self.entries.reserve(self.live + 2)?;

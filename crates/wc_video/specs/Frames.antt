@@ -8,16 +8,16 @@ use Rattle.wc_pool.specs.declared.reference.MediaRef.{MediaRef}
 use Rattle.wc_pool.specs.declared.entry.PoolEntry.{PoolEntry}
 use Rattle.wc_pool.specs.declared.entry.MediaFault.{MediaFault}
 use Rattle.wc_pool.specs.declared.entry.MediaFault.TheVariants as fault
-use Rattle.wc_pool.specs.Pools.{made_by, cloned_by, ended_by, KeepsAll, KeepsOthers, IsCloneOf, with_token}
+use Rattle.wc_pool.specs.Pools.{made_by, cloned_by, ended_by, KeepsAll, KeepsOthers, IsCloneOf}
 
 -- its shape, and the reference that it holds; none where it is detached
 pub record Frame : Type 0 where
   pub shape : PictureShape
   pub held : Option MediaRef
 
--- the frame but for the token of its reference
-abbrev pub bare : Frame → Frame
-bare f = record { shape = f.shape; held = option_map (with_token None) f.held }
+-- the frame with so much of its reference
+abbrev pub held_as : (MediaRef → MediaRef) → Frame → Frame
+held_as part f = record { shape = f.shape; held = option_map part f.held }
 
 -- an init that is refused: no row, no column, or fewer bytes than the planes need
 abbrev pub is_invalid : PictureShape → ℕ → Bool

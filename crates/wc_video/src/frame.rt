@@ -5,7 +5,7 @@ ghost use Rattle.std.specs.Prelude.{option_map, is_some, is_none, unwrap_or};
 ghost use Rattle.wc_base.specs.declared.error.DomError.TheVariants as dom;
 ghost use Rattle.picture_planes.specs.Planes.{picture_size};
 ghost use Rattle.wc_pool.specs.Pools.{KeepsAll};
-ghost use Rattle.wc_video.specs.Frames.{bare, is_invalid, content_of, IsHeldOf, IsMadeBy};
+ghost use Rattle.wc_video.specs.Frames.{held_as, is_invalid, content_of, IsHeldOf, IsMadeBy};
 ghost use Rattle.wc_video.specs.Frames.{IsCloneBy, IsInitFault, IsCloneFault, Closes, KeepsButHeld};
 
 use bytes::Bytes;
@@ -100,14 +100,15 @@ impl VideoFrame {
     }
 
     /// An open frame with a second reference to the same resource, and the same shape (W3C WebCodecs,
-    /// VideoFrame, `clone`). `InvalidState` comes exactly where it is detached.
+    /// VideoFrame, `clone`). `InvalidState` comes exactly where it is detached. The frame stays as it is,
+    /// but for what the pool does not keep of a reference that is cloned.
     pub fn clone_frame<P: RefPool>(
         &mut self,
         pool: &mut P,
         by: By,
     ) -> Result<VideoFrame, MediaFault>
         requires { IsHeldOf (P.is_of pool.old) self.old }
-        ensures same { bare self.new ≡ bare self.old }
+        ensures same { held_as P.lasting self.new ≡ held_as P.lasting self.old }
         ensures still { IsHeldOf (P.is_of pool.new) self.new }
         ensures ok { IfOk result (IsCloneBy (P.adds pool.old pool.new) by self.old) }
         ensures of { IfOk result (IsHeldOf (P.is_of pool.new)) }
