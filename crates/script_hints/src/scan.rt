@@ -1,10 +1,17 @@
 // Looks into the text of a JSON value by places: that the text is JSON is known before.
 
-/// A member of an object: where its name and its value begin, and where what follows it begins.
+/// The name of a member, with its escapes as they are: where it begins, and where the member's value begins.
 #[derive(Clone, Copy)]
-pub struct Member {
-    pub name: usize,
+pub struct Name<'t> {
+    pub at: usize,
+    pub text: &'t [u8],
     pub value: usize,
+}
+
+/// A member of an object: its name, and where what follows it begins.
+#[derive(Clone, Copy)]
+pub struct Member<'t> {
+    pub name: Name<'t>,
     pub next: usize,
 }
 
@@ -117,21 +124,26 @@ pub fn inside(at: usize) -> usize {
     at.saturating_add(1)
 }
 
-/// The name of the next member, and where its value begins; what follows it is not known yet.
-pub fn next_name(text: &[u8], at: usize) -> Option<(usize, usize)> {
-    let name = past_comma(text, at);
-    if byte_at(text, name) != b'"' {
+/// The name of the next member; what follows its value is not known yet.
+pub fn next_name(text: &[u8], at: usize) -> Option<Name<'_>> {
+    let at = past_comma(text, at);
+    if byte_at(text, at) != b'"' {
         return None;
     }
-    let colon = past_blanks(text, past_string(text, name));
-    Some((name, past_blanks(text, colon.saturating_add(1))))
+    let end = past_string(text, at);
+    let colon = past_blanks(text, end);
+    Some(Name {
+        at,
+        text: text.get(inside(at)..end.saturating_sub(1)).unwrap_or(b""),
+        value: past_blanks(text, colon.saturating_add(1)),
+    })
 }
 
 /// The next member of an object.
-pub fn next_member(text: &[u8], at: usize) -> Option<Member> {
-    let (name, value) = next_name(text, at)?;
-    let next = past_value(text, value);
-    Some(Member { name, value, next })
+pub fn next_member(text: &[u8], at: usize) -> Option<Member<'_>> {
+    let name = next_name(text, at)?;
+    let next = past_value(text, name.value);
+    Some(Member { name, next })
 }
 
 /// Where the next item of an array begins.
@@ -170,8 +182,8 @@ pub fn find_member(text: &[u8], object: usize, name: &[u8]) -> Option<usize> {
         let Some(member) = next_member(text, at) else {
             break;
         };
-        if string_at(text, member.name) == Some(name) {
-            found = Some(member.value);
+        if member.name.text == name {
+            found = Some(member.name.value);
         }
         at = member.next;
     }

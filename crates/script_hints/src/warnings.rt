@@ -3,7 +3,7 @@
 use crate::notes::Notes;
 use crate::rules::{Form, MOST_RULES, form_of_word, rule_of};
 use crate::scan::{
-    byte_at, find_member, inside, next_name, next_start, past_blanks, past_value, string_at,
+    Name, byte_at, find_member, inside, next_name, next_start, past_blanks, past_value, string_at,
 };
 use std::alloc::AllocError;
 
@@ -22,6 +22,16 @@ fn is_known(form: Form, name: &[u8]) -> bool {
         }
     }
     false
+}
+
+// The word of a step and what it has. The word stands first in most steps, which are then read once.
+fn work_of(text: &[u8], step: usize) -> Option<(&[u8], Form)> {
+    let at = match next_name(text, inside(step)) {
+        Some(name) if name.text == b"do" => name.value,
+        _ => find_member(text, step, b"do")?,
+    };
+    let word = string_at(text, at)?;
+    Some((word, form_of_word(word)?))
 }
 
 /// Looks for members that no rule knows, and tells of the first ones.
@@ -61,6 +71,15 @@ impl<'n, 't> Warner<'n, 't> {
         self.notes.end()
     }
 
+    // Tells of a member that this form does not know.
+    fn look_at(&mut self, name: Name<'_>, form: Form) -> Result<(), AllocError> {
+        if is_known(form, name.text) {
+            Ok(())
+        } else {
+            self.tell(name.at, b"")
+        }
+    }
+
     // Members of an object whose own members hold no objects.
     fn flat(&mut self, object: usize, form: Form) -> Result<usize, AllocError> {
         if byte_at(self.text, object) != b'{' {
@@ -68,14 +87,11 @@ impl<'n, 't> Warner<'n, 't> {
         }
         let mut at = inside(object);
         for _ in 0..self.text.len() {
-            let Some((name, value)) = next_name(self.text, at) else {
+            let Some(name) = next_name(self.text, at) else {
                 break;
             };
-            match string_at(self.text, name) {
-                Some(text) if !is_known(form, text) => self.tell(name, b"")?,
-                _ => {}
-            }
-            at = past_value(self.text, value);
+            self.look_at(name, form)?;
+            at = past_value(self.text, name.value);
         }
         Ok(past_blanks(self.text, at).saturating_add(1))
     }
@@ -102,18 +118,16 @@ impl<'n, 't> Warner<'n, 't> {
         }
         let mut at = inside(object);
         for _ in 0..self.text.len() {
-            let Some((name, value)) = next_name(self.text, at) else {
+            let Some(name) = next_name(self.text, at) else {
                 break;
             };
-            at = match string_at(self.text, name) {
-                Some(b"flac") => self.flat(value, Form::Flac)?,
-                Some(b"rect") => self.flat(value, Form::Rect)?,
-                Some(b"layout") => self.flat_items(value, Form::Plane)?,
-                text => {
-                    if text.is_some_and(|it| !is_known(form, it)) {
-                        self.tell(name, b"")?;
-                    }
-                    past_value(self.text, value)
+            at = match name.text {
+                b"flac" => self.flat(name.value, Form::Flac)?,
+                b"rect" => self.flat(name.value, Form::Rect)?,
+                b"layout" => self.flat_items(name.value, Form::Plane)?,
+                _ => {
+                    self.look_at(name, form)?;
+                    past_value(self.text, name.value)
                 }
             };
         }
@@ -123,27 +137,27 @@ impl<'n, 't> Warner<'n, 't> {
     // Members of a step.
     fn step(&mut self, step: usize) -> Result<usize, AllocError> {
         let text = self.text;
-        let word = find_member(text, step, b"do").and_then(|at| string_at(text, at));
-        let Some(form) = word.and_then(|it| form_of_word(it)) else {
+        let Some((word, form)) = work_of(text, step) else {
             return Ok(past_value(text, step));
         };
         let mut at = inside(step);
         for _ in 0..text.len() {
-            let Some((name, value)) = next_name(text, at) else {
+            let Some(name) = next_name(text, at) else {
                 break;
             };
-            let member = string_at(text, name).unwrap_or(b"");
-            if member != b"do".as_slice() && !is_known(form, member) {
-                self.tell(name, word.unwrap_or(b""))?;
-                at = past_value(text, value);
-            } else {
-                at = match member {
-                    b"config" => self.parts(value, Form::Config)?,
-                    b"options" => self.parts(value, Form::Options)?,
-                    b"init" => self.flat(value, Form::Init)?,
-                    _ => past_value(text, value),
-                };
-            }
+            at = match name.text {
+                b"config" if form == Form::Configure => self.parts(name.value, Form::Config)?,
+                b"options" if is_known(form, b"options") => {
+                    self.parts(name.value, Form::Options)?
+                }
+                b"init" if is_known(form, b"init") => self.flat(name.value, Form::Init)?,
+                member => {
+                    if member != b"do" && !is_known(form, member) {
+                        self.tell(name.at, word)?;
+                    }
+                    past_value(text, name.value)
+                }
+            };
         }
         Ok(past_blanks(text, at).saturating_add(1))
     }
@@ -169,16 +183,14 @@ impl<'n, 't> Warner<'n, 't> {
         }
         let mut at = inside(object);
         for _ in 0..self.text.len() {
-            let Some((name, value)) = next_name(self.text, at) else {
+            let Some(name) = next_name(self.text, at) else {
                 break;
             };
-            at = match string_at(self.text, name) {
-                Some(b"steps") => self.steps(value)?,
-                text => {
-                    if text.is_some_and(|it| !is_known(Form::Caller, it)) {
-                        self.tell(name, b"")?;
-                    }
-                    past_value(self.text, value)
+            at = match name.text {
+                b"steps" => self.steps(name.value)?,
+                _ => {
+                    self.look_at(name, Form::Caller)?;
+                    past_value(self.text, name.value)
                 }
             };
         }
@@ -206,18 +218,16 @@ impl<'n, 't> Warner<'n, 't> {
         }
         let mut at = inside(top);
         for _ in 0..self.text.len() {
-            let Some((name, value)) = next_name(self.text, at) else {
+            let Some(name) = next_name(self.text, at) else {
                 break;
             };
-            at = match string_at(self.text, name) {
-                Some(b"codecs") => self.flat_items(value, Form::Codec)?,
-                Some(b"callers") => self.callers(value)?,
-                Some(b"order") => self.flat_items(value, Form::Item)?,
-                text => {
-                    if text.is_some_and(|it| !is_known(Form::Script, it)) {
-                        self.tell(name, b"")?;
-                    }
-                    past_value(self.text, value)
+            at = match name.text {
+                b"codecs" => self.flat_items(name.value, Form::Codec)?,
+                b"callers" => self.callers(name.value)?,
+                b"order" => self.flat_items(name.value, Form::Item)?,
+                _ => {
+                    self.look_at(name, Form::Script)?;
+                    past_value(self.text, name.value)
                 }
             };
         }
