@@ -9,10 +9,10 @@ use Rattle.flac_definitions.specs.Bits.{Begins}
 use Rattle.flac_definitions.specs.Options.{◌>>=◌}
 use Rattle.flac_definitions.specs.Bits.{start_of}
 use Rattle.flac_definitions.specs.Frame.{if_all_bytes, frame_at, frame_of}
-use Rattle.flac_definitions.specs.FrameSpelling.{FramesAreSpelled}
+use Rattle.flac_definitions.specs.FrameSpelling.{IsFrame, FramesAreSpelled}
 use Rattle.flac_definitions.specs.GrammarLaws.{same_some}
 use Rattle.flac_definitions.specs.SumLaws.{front_bytes}
-use Rattle.flac_decode.specs.FrameEnd.{most, EndsAt, end_of}
+use Rattle.flac_decode.specs.FrameEnd.{most, EndsAt, IsFront, end_of, front_of}
 use Rattle.flac_definitions.specs.GrammarLaws.{same_some}
 use Rattle.flac_definitions.specs.SumLaws.{front_bytes}
 
@@ -102,3 +102,25 @@ ends_cases laws info bytes (Some x) e =
 
 pub ends_once : (laws : FramesAreSpelled) (info : StreamInfo) (bytes : List ℕ) → EndsAt info bytes (end_of (frame_at info (start_of (take most bytes))))
 ends_once laws info bytes = ends_cases laws info bytes (frame_at info (start_of (take most bytes))) refl
+
+front_eq : (laws : FramesAreSpelled) (info : StreamInfo) (bytes : List ℕ) (x : (FrameHeader × List ℤ) × Place) → frame_at info (start_of (take most bytes)) ≡ Some x → frame_of info (take (x.1.at / 8) bytes) ≡ Some x.0
+front_eq laws info bytes x e =
+    let xs = take most bytes in
+    let c = cuts laws info xs x.0 x.1 (omega (arith, length-take most bytes)) e in
+    let few : x.1.at / 8 ≤ most = omega (arith, c.0, length-take most bytes) in
+    ap (λ (z : List ℕ). frame_of info z) (sym (take_within (x.1.at / 8) most bytes few)) ∙ c.1
+
+front_cases : (laws : FramesAreSpelled) (info : StreamInfo) (bytes : List ℕ) (o : Option ((FrameHeader × List ℤ) × Place)) → frame_at info (start_of (take most bytes)) ≡ o → IsFront info bytes (front_of o)
+front_cases laws info bytes None e = ends_cases laws info bytes None e
+front_cases laws info bytes (Some x) e = (ends_cases laws info bytes (Some x) e, (x.0, front_eq laws info bytes x e, refl))
+
+-- the frame that is read at the start is the one in front
+pub front_is : (laws : FramesAreSpelled) (info : StreamInfo) (bytes : List ℕ) → IsFront info bytes (front_of (frame_at info (start_of (take most bytes))))
+front_is laws info bytes = front_cases laws info bytes (frame_at info (start_of (take most bytes))) refl
+
+-- a frame is spelled by the bits of its bytes
+pub is_spelled : (laws : FramesAreSpelled) (info : StreamInfo) (bytes : List ℕ) (f : FrameHeader × List ℤ) → frame_of info bytes ≡ Some f → (bits : List Bool) × IsFrame info f bits × (length bits ≡ 8 * length bytes)
+is_spelled laws info bytes f e =
+    let c = long_cases info bytes f (ltb (length bytes) (2 ^ 61)) refl e in
+    let a = laws.sound info bytes c.1 f c.2 in
+    (a.bits, a.fine, omega (arith, ap (λ (p : Place). p.at) a.place, c.3))

@@ -5,3 +5,4 @@ pub mod FrameEndLaws
 mod Drained
 mod Served
 mod StereoLaws
+pub mod FoundLaws

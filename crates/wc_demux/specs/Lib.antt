@@ -1,0 +1,5 @@
+pub mod Parts
+pub mod Facts
+pub mod Wav
+pub mod Flac
+pub mod Media
