@@ -251,4 +251,4 @@ module _ (o : Opening) (some : 1 ≤ o.saturation) (facts : Always IsNeverStuck)
 pub falls_between : (facts : Always IsNeverStuck) → SizeFalls
 falls_between facts o h some legal i j lt first last =
     let k = apart o some facts h (opening_state o) (record { far = []; replays = refl }) i j lt first last in
-    record { place = k.place; after = k.after; before = k.before; falls = k.falls }
+    (k.place, record { after = k.after; before = k.before; falls = k.falls })

@@ -4,6 +4,7 @@ pub mod OutLaws
 pub mod PlaceLaws
 pub mod OldLaws
 pub mod FallLaws
+pub mod FoundLaws
 pub mod HearLaws
 pub mod SameLaws
 pub mod PromiseLaws

@@ -68,12 +68,14 @@ RejectedOnly = (o : Opening) (h : List Entry) → IsLegal o h → (p t : ℕ) (e
 
 -- ---- dequeue
 
--- at a place between two others the size falls
-pub record FallsBetween (xs : List Sight) (i j : ℕ) : Type 0 where
-  pub place : ℕ
+-- at this place, between two others, the size falls
+pub record IsFall (xs : List Sight) (i j place : ℕ) : Type 0 where
   pub after : i < place
   pub before : place < j
   pub falls : falls_at xs place ≡ true
+
+abbrev pub FallsBetween : List Sight → ℕ → ℕ → Type 0
+FallsBetween xs i j = (place : ℕ) × IsFall xs i j place
 
 -- between two dequeue events the size falls
 abbrev pub SizeFalls : Type 0

@@ -3,12 +3,14 @@
 
 mod answers;
 mod book;
+mod falls;
 mod laws;
 mod seen;
 mod sight;
 mod source;
 
 pub use answers::{output_configuration, output_source, promise_end};
+pub use falls::fall_between;
 pub use laws::{
     nothing_old, promises_end_once, rejected_only_by_removals, removals_reject,
     same_calls_show_the_same, size_falls_between,

@@ -1,0 +1,87 @@
+-- Whole runs, and what the laws by places see of them.
+use Rattle.std.specs.Prelude.{ℕ, ◌≡◌, true, false, pos, List, [], ◌∷◌, Some, None, codes}
+use Rattle.wc_config.specs.declared.config.Config.{Config}
+use Rattle.wc_config.specs.declared.config.Config.TheVariants as config
+use Rattle.wc_chunk.specs.declared.chunk.Chunk.{Chunk}
+use Rattle.wc_base.specs.declared.error.DomError.TheVariants as dom
+use Rattle.codec_model.specs.declared.entry.Outcome.TheVariants as outcome
+use Rattle.codec_model.specs.declared.entry.PromiseState.TheVariants as promise
+use Rattle.codec_model.specs.declared.entry.Call.{Call}
+use Rattle.codec_model.specs.declared.entry.Call.TheVariants as call
+use Rattle.codec_model.specs.declared.entry.Entry.{Entry}
+use Rattle.codec_model.specs.declared.entry.Entry.TheVariants as entry
+use Rattle.codec_model.specs.declared.entry.Opening.{Opening}
+use Rattle.wc_config.specs.declared.kind.Kind.TheVariants.{AudioDecoder}
+use Rattle.codec_laws.specs.Sights.{sights, falls_at, dequeues_at}
+use Rattle.codec_laws.specs.Sources.{outputs, end_from}
+
+abbrev pub four : Opening
+four = record { kind = AudioDecoder; saturation = 4 }
+
+abbrev pub two : Opening
+two = record { kind = AudioDecoder; saturation = 2 }
+
+abbrev pub made : ℕ → Call → Entry
+made j y = entry.Call (record { caller = 0; step = j }) y
+
+abbrev pub pcm : Config
+pcm = config.AudioDecoder (record { codec = codes "pcm-s16"; rate = 8000; channels = 1; description = None })
+
+abbrev pub sample : ℕ → Chunk
+sample n = record { key = true; timestamp = pos 0; duration = None; bytes = n ∷ 0 ∷ [] }
+
+abbrev pub saturating : List Entry
+saturating =
+    made 0 (call.Configure pcm) ∷ made 1 (call.Decode (sample 1)) ∷ made 2 (call.Decode (sample 2)) ∷ made 3 (call.Decode (sample 3))
+    ∷ entry.Start 0 0 ∷ entry.Done 0 0 1 (outcome.Ran 0) ∷ entry.Turn ∷ entry.Turn
+    ∷ entry.Start 0 1 ∷ entry.Done 0 1 2 (outcome.Ran 1) ∷ entry.Start 0 2 ∷ entry.Done 0 2 3 (outcome.Ran 1)
+    ∷ entry.Turn ∷ entry.Turn ∷ entry.Turn ∷ entry.Turn ∷ entry.Turn
+    ∷ entry.Start 0 3 ∷ entry.Done 0 3 4 (outcome.Ran 1) ∷ entry.Turn ∷ []
+
+abbrev pub resetting : List Entry
+resetting =
+    made 0 (call.Configure pcm) ∷ made 1 (call.Decode (sample 1))
+    ∷ entry.Start 0 0 ∷ entry.Done 0 0 1 (outcome.Ran 0) ∷ entry.Turn ∷ entry.Turn ∷ entry.Start 0 1
+    ∷ made 2 call.Reset ∷ made 3 (call.Configure pcm) ∷ made 4 (call.Decode (sample 2))
+    ∷ entry.Done 0 1 2 (outcome.Ran 1) ∷ entry.Turn
+    ∷ entry.Start 1 0 ∷ entry.Done 1 0 3 (outcome.Ran 0) ∷ entry.Turn ∷ entry.Turn
+    ∷ entry.Start 1 1 ∷ entry.Done 1 1 4 (outcome.Ran 1) ∷ entry.Turn ∷ entry.Turn ∷ []
+
+abbrev pub closing : List Entry
+closing =
+    made 0 (call.Configure pcm) ∷ made 1 call.Flush ∷ made 2 call.Flush ∷ made 3 call.Close
+    ∷ made 4 call.Close ∷ made 5 call.Flush ∷ []
+
+-- refused, as no codec has this name
+abbrev pub opus : Config
+opus = config.AudioDecoder (record { codec = codes "opus"; rate = 48000; channels = 2; description = None })
+
+abbrev pub unsupported : List Entry
+unsupported = made 0 (call.Configure opus) ∷ made 1 call.Flush ∷ entry.Start 0 0 ∷ entry.Done 0 0 5 outcome.Refused ∷ entry.Turn ∷ []
+
+-- the output of a decode after a reset, though one before it was at work
+abbrev pub ResettingPlaces : Type 0
+ResettingPlaces = outputs (sights four resetting) ≡ record { source = record { call = 9; configure = 8; index = 0 }; turn = 19 } ∷ []
+
+-- three outputs of one configuration
+abbrev pub SaturatingPlaces : Type 0
+SaturatingPlaces =
+    outputs (sights two saturating)
+    ≡ record { source = record { call = 1; configure = 0; index = 0 }; turn = 14 } ∷ record { source = record { call = 2; configure = 0; index = 1 }; turn = 15 } ∷ record { source = record { call = 3; configure = 0; index = 2 }; turn = 19 } ∷ []
+
+-- two dequeue events, and the fall between them
+pub record SaturatingFalls : Type 0 where
+  pub first : dequeues_at (sights two saturating) 12 ≡ true
+  pub second : dequeues_at (sights two saturating) 16 ≡ true
+  pub falls : falls_at (sights two saturating) 13 ≡ true
+  pub stays : falls_at (sights two saturating) 14 ≡ false
+
+-- two promises that a close rejects, and one that is refused afterwards
+pub record ClosingEnds : Type 0 where
+  pub first : end_from 1 0 (sights four closing) ≡ Some (3, promise.Rejected dom.Abort)
+  pub second : end_from 2 0 (sights four closing) ≡ Some (3, promise.Rejected dom.Abort)
+  pub refused : end_from 5 0 (sights four closing) ≡ Some (5, promise.Rejected dom.InvalidState)
+
+-- a promise that the turn of a close rejects
+abbrev pub UnsupportedEnds : Type 0
+UnsupportedEnds = end_from 1 0 (sights four unsupported) ≡ Some (4, promise.Rejected dom.NotSupported)

@@ -1,0 +1,7 @@
+//! Worked rows of the laws by places: the definitions on whole runs, computed by the checker. Each function's contract is a
+//! row.
+#![tactic(auto)]
+
+mod rows;
+
+pub use rows::{closing_run, resetting_run, saturating_run, unsupported_run};
