@@ -5,3 +5,4 @@ pub mod LegalLaws
 pub mod LendLaws
 pub mod Places
 pub mod StepLaws
+pub mod Whole

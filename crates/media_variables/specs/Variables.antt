@@ -168,9 +168,9 @@ if_there (Some m) vs came = came m
 abbrev pub zeros : ℕ → List ℕ
 zeros size = replicate size 0
 
--- the definitions of copies see no key of a pool
+-- the definitions of copies see no key of a pool, and no token
 abbrev pub media_ref : Reference → MediaRef
-media_ref r = record { resource = r.resource; number = r.number; key = 0; bytes = r.bytes }
+media_ref r = record { resource = r.resource; number = r.number; key = 0; bytes = r.bytes; token = None }
 
 abbrev pub sound_of : SoundShape → Option Reference → Sound
 sound_of shape held = record { shape = shape; held = option_map media_ref held }

@@ -47,6 +47,7 @@ fn samples_of(audio: &AudioData) -> Result<Samples, NoMemory>
 }
 
 /// One more reference to the resource of open audio data.
+#[tactic(auto, using(crate::proofs::Whole::same_sound))]
 fn clone_reference(audio: &mut AudioData, pool: &mut Pool, by: By) -> Result<MediaRef, NoMemory>
     requires open { is_some audio.old.held ≡ true }
     requires live { IsHeldOf (IsLive pool.old) audio.old }

@@ -129,6 +129,7 @@ pub(crate) fn make_taken(
     })
 }
 
+#[tactic(auto, using(crate::proofs::Whole::same_sound))]
 fn clone_audio(audio: &mut AudioData, pool: &mut Pool, who: Who) -> Result<Given, NoMemory>
     requires { IsHeldOf (IsLive pool.old) audio.old }
     ensures same { audio.new ≡ audio.old }
@@ -145,6 +146,7 @@ fn clone_audio(audio: &mut AudioData, pool: &mut Pool, who: Who) -> Result<Given
     }
 }
 
+#[tactic(auto, using(crate::proofs::Whole::same_frame))]
 fn clone_frame(frame: &mut VideoFrame, pool: &mut Pool, who: Who) -> Result<Given, NoMemory>
     requires { frames.IsHeldOf (IsLive pool.old) frame.old }
     ensures same { frame.new ≡ frame.old }
