@@ -3,6 +3,7 @@ pub mod FlowLaws
 pub mod OutLaws
 pub mod PlaceLaws
 pub mod OldLaws
+pub mod IndexLaws
 pub mod FallLaws
 pub mod FoundLaws
 pub mod HearLaws

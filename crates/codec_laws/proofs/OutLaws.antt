@@ -203,7 +203,7 @@ output_units n (u ∷ us) = ap (λ (l : List media.Unit). u ∷ l) (output_units
 flushed_units : (n promise : ℕ) (us : List media.Unit) → units_in (outputs_from n us ++ Event.Resolve promise ∷ []) ≡ us
 flushed_units n promise us = units_append (outputs_from n us) (Event.Resolve promise ∷ []) ∙ (append-nil (units_in (outputs_from n us)) ∙ output_units n us)
 
-take_and_drop : {X : Type 0} (n : ℕ) (xs : List X) → take n xs ++ drop n xs ≡ xs
+pub take_and_drop : {X : Type 0} (n : ℕ) (xs : List X) → take n xs ++ drop n xs ≡ xs
 take_and_drop zero xs = refl
 take_and_drop (suc n) [] = refl
 take_and_drop {X} (suc n) (x ∷ xs) = ap (λ (l : List X). x ∷ l) (take_and_drop n xs)

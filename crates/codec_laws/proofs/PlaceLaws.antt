@@ -145,7 +145,7 @@ rising_next : (low high : ℕ) (qs : List Asked) → Rising low qs high → Risi
 rising_next low high [] h = omega (arith, h)
 rising_next low high (a ∷ qs) h = (h.0, rising_next (a.0 + 1) high qs h.1)
 
-rising_high : (low high : ℕ) (qs : List Asked) → Rising low qs high → low ≤ high
+pub rising_high : (low high : ℕ) (qs : List Asked) → Rising low qs high → low ≤ high
 rising_high low high [] h = h
 rising_high low high (a ∷ qs) h = let k = rising_high (a.0 + 1) high qs h.1 in omega (arith, k, h.0)
 
@@ -171,19 +171,19 @@ all_snoc : {X : Type 0} (P : X → Type 0) (xs : List X) (x : X) → AllByRecurs
 all_snoc P [] x h p = (p, tt)
 all_snoc P (y ∷ xs) x h p = (h.0, all_snoc P xs x h.1 p)
 
-all_front : {X : Type 0} (P : X → Type 0) (xs ys : List X) → AllByRecursion P (xs ++ ys) → AllByRecursion P xs
+pub all_front : {X : Type 0} (P : X → Type 0) (xs ys : List X) → AllByRecursion P (xs ++ ys) → AllByRecursion P xs
 all_front P [] ys h = tt
 all_front P (x ∷ xs) ys h = (h.0, all_front P xs ys h.1)
 
-all_back : {X : Type 0} (P : X → Type 0) (xs ys : List X) → AllByRecursion P (xs ++ ys) → AllByRecursion P ys
+pub all_back : {X : Type 0} (P : X → Type 0) (xs ys : List X) → AllByRecursion P (xs ++ ys) → AllByRecursion P ys
 all_back P [] ys h = h
 all_back P (x ∷ xs) ys h = all_back P xs ys h.1
 
-all_both : {X : Type 0} (P : X → Type 0) (xs ys : List X) → AllByRecursion P xs → AllByRecursion P ys → AllByRecursion P (xs ++ ys)
+pub all_both : {X : Type 0} (P : X → Type 0) (xs ys : List X) → AllByRecursion P xs → AllByRecursion P ys → AllByRecursion P (xs ++ ys)
 all_both P [] ys h k = k
 all_both P (x ∷ xs) ys h k = (h.0, all_both P xs ys h.1 k)
 
-all_take : {X : Type 0} (P : X → Type 0) (n : ℕ) (xs : List X) → AllByRecursion P xs → AllByRecursion P (take n xs)
+pub all_take : {X : Type 0} (P : X → Type 0) (n : ℕ) (xs : List X) → AllByRecursion P xs → AllByRecursion P (take n xs)
 all_take P zero xs h = tt
 all_take P (suc n) [] h = tt
 all_take P (suc n) (x ∷ xs) h = (h.0, all_take P n xs h.1)
@@ -208,7 +208,7 @@ module _ (whole : List Sight) where
   since_after v place since = cond (is_some v.removes) (place + 1) since
 
   -- one entry more, which is seen so
-  calls_more : (e : Entry) (s t : State) (v : Sight) (since : ℕ) (x : Course) → EntryPhases e s t → v.removes ≡ rejects_with e (shown_at e s) → v.asks ≡ option_map kind_of (asked_for e (shows e s)) → slice_get whole s.control.place ≡ Some v → x.book.place ≡ s.control.place → Calls since x s → Calls (since_after v s.control.place since) (course_after e s x) t
+  pub calls_more : (e : Entry) (s t : State) (v : Sight) (since : ℕ) (x : Course) → EntryPhases e s t → v.removes ≡ rejects_with e (shown_at e s) → v.asks ≡ option_map kind_of (asked_for e (shows e s)) → slice_get whole s.control.place ≡ Some v → x.book.place ≡ s.control.place → Calls since x s → Calls (since_after v s.control.place since) (course_after e s x) t
   calls_more e s t v since x p removed asks here at h = by_removed (is_some (rejects_with e (shown_at e s))) refl
     where
       works_more : (o : Option Work) → asked_for e (shows e s) ≡ o → is_some (rejects_with e (shown_at e s)) ≡ false → Rising since (more_asked s.control.place o x.works) t.control.place × Begins (more_asked s.control.place o x.works) t.control.phase × AllByRecursion AskedThere (more_asked s.control.place o x.works)
@@ -278,15 +278,24 @@ module _ (whole : List Sight) where
   begins_front [] more phase h = λ e. absurd cc
   begins_front (a ∷ qs) more phase h = h
 
-  -- what waits to be shown
-  waits_fine : (since : ℕ) (x : Course) (s : State) → Flow x s → Outs x s.control → Calls since x s → AllByRecursion (Fine since s.control.place) x.book.waiting
-  waits_fine since x s f o c =
+  -- what is known of the calls that ran, and of where their outputs come from, shown or waiting
+  pub record Epoch (since : ℕ) (x : Course) (s : State) : Type 0 where
+    pub begins : Begins x.past CodecState.Unconfigured
+    pub rises : Rising since x.past s.control.place
+    pub fine : AllByRecursion (Fine since s.control.place) (x.sources ++ x.book.waiting)
+
+  pub epoch_here : (since : ℕ) (x : Course) (s : State) → Flow x s → Outs x s.control → Calls since x s → Epoch since x s
+  epoch_here since x s f o c =
       let works : x.works ≡ x.past ++ (x.mid ++ waiting_asked s.control) = f.works ∙ append_assoc x.past x.mid (waiting_asked s.control) in
       let more = x.mid ++ waiting_asked s.control in
       let rises = rising_front since s.control.place x.past more (subst (λ (qs : List Asked). Rising since qs s.control.place) works c.rises) in
       let begins = begins_front x.past more s.control.phase (subst (λ (qs : List Asked). Begins qs s.control.phase) works c.begins) in
       let there = all_front AskedThere x.past more (subst (λ (qs : List Asked). AllByRecursion AskedThere qs) works c.there) in
-      all_back (Fine since s.control.place) x.sources x.book.waiting (subst (λ (l : List Source). AllByRecursion (Fine since s.control.place) l) (sym o.sources) (epoch_fine since s.control.place x.past CodecState.Unconfigured begins rises there))
+      record { begins = begins; rises = rises; fine = subst (λ (l : List Source). AllByRecursion (Fine since s.control.place) l) (sym o.sources) (epoch_fine since s.control.place x.past CodecState.Unconfigured begins rises there) }
+
+  -- what waits to be shown
+  waits_fine : (since : ℕ) (x : Course) (s : State) → Flow x s → Outs x s.control → Calls since x s → AllByRecursion (Fine since s.control.place) x.book.waiting
+  waits_fine since x s f o c = all_back (Fine since s.control.place) x.sources x.book.waiting (epoch_here since x s f o c).fine
 
   own_all : (since place : ℕ) (ys : List Source) → ((k : ℕ) → since ≤ k → k < place → removes_at whole k ≡ None) → AllByRecursion (Fine since place) ys → AllByRecursion (IsOwn whole) (shown_by place ys)
   own_all since place [] none h = tt
@@ -311,7 +320,7 @@ module _ (whole : List Sight) where
   pub here_rest : (place next : ℕ) (v : Sight) (xs : List Sight) → next ≡ place + 1 → Here place (v ∷ xs) → Here next xs
   here_rest place next v xs e h = λ k. subst (λ (n : ℕ). slice_get whole n ≡ slice_get xs k) (omega (arith, e)) (h (suc k))
 
-  next_book : (b : Bool) (x y : Course) (c d : Book) → x.book ≡ c → y.book ≡ d → (cond b x y).book ≡ cond b c d
+  pub next_book : (b : Bool) (x y : Course) (c d : Book) → x.book ≡ c → y.book ≡ d → (cond b x y).book ≡ cond b c d
   next_book true x y c d e f = e
   next_book false x y c d e f = f
 

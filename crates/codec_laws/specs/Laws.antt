@@ -1,5 +1,5 @@
 -- The laws by places, of every legal history (our choice; W3C WebCodecs says them by its algorithms alone).
-use Rattle.std.specs.Prelude.{ℕ, ◌≡◌, ◌≤◌, ◌<◌, ◌+◌, ◌&&◌, ◌⊎◌, Bool, true, List, [], ◌∷◌, ◌++◌, take, slice_get, Some, None, is_some, is_none, unwrap_or, option_map}
+use Rattle.std.specs.Prelude.{ℕ, ◌≡◌, ◌≤◌, ◌<◌, ◌+◌, ◌&&◌, ◌⊎◌, Bool, true, List, [], ◌∷◌, ◌++◌, take, slice_get, Some, None, is_some, is_none, unwrap_or, option_map, if◌then◌else◌, ◌==◌}
 use Rattle.wc_base.specs.declared.error.DomError.{DomError}
 use Rattle.wc_base.specs.declared.error.DomError.TheVariants as dom
 use Rattle.codec_model.specs.declared.entry.Opening.{Opening}
@@ -65,6 +65,17 @@ IsRejected xs p t error = IsRefusedThere xs p t error ⊎ IsRemovedThere xs p t 
 -- a promise is rejected at its own place, or by the first removal after it
 abbrev pub RejectedOnly : Type 0
 RejectedOnly = (o : Opening) (h : List Entry) → IsLegal o h → (p t : ℕ) (error : DomError) → end_from p 0 (sights o h) ≡ Some (t, promise.Rejected error) → IsRejected (sights o h) p t error
+
+-- ---- order
+
+-- how many of these outputs are of the configuration that begins at a place
+abbrev pub count_of : ℕ → List Output → ℕ
+count_of f [] = 0
+count_of f (y ∷ ys) = (if y.source.configure == f then 1 else 0) + count_of f ys
+
+-- outputs of one configuration have the indexes 0, 1, 2, .. in the order in which they are shown
+abbrev pub IndexesRise : Type 0
+IndexesRise = (o : Opening) (h : List Entry) → IsLegal o h → (n : ℕ) (y : Output) → slice_get (outputs (sights o h)) n ≡ Some y → y.source.index ≡ count_of y.source.configure (take n (outputs (sights o h)))
 
 -- ---- dequeue
 

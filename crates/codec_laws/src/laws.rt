@@ -1,5 +1,5 @@
 // Laws of every legal history.
-ghost use Rattle.codec_laws.specs.Laws.{NothingOld, RemovalsReject, RejectedOnly, EndsOnce, SizeFalls, SameShown};
+ghost use Rattle.codec_laws.specs.Laws.{NothingOld, IndexesRise, RemovalsReject, RejectedOnly, EndsOnce, SizeFalls, SameShown};
 
 use codec_model::never_stuck;
 
@@ -7,6 +7,11 @@ use codec_model::never_stuck;
 /// that gave it, and no removal: no reset or close that is not refused, no reclaim, and no turn that closes the codec.
 pub fn nothing_old()
     ensures { NothingOld }
+{}
+
+/// Law: the outputs of one configuration have the indexes 0, 1, 2 and so on, in the order in which they are shown.
+pub fn indexes_rise()
+    ensures { IndexesRise }
 {}
 
 /// Law: a flush that is pending at a removal is rejected there, once, with the removal's error.
