@@ -1,9 +1,9 @@
 -- Whose box a codec's box is, entry after entry.
 use Rattle.std.proofs.Common.{ℕ, ◌≡◌, not, Bool, true, false, eqb, cond, List, [], ◌∷◌, ◌++◌, length, Option, Some, None, is_some, refl, ap, sym, subst, ◌∙◌}
-use Rattle.std.specs.Prelude.{unwrap_or, IfSome}
+use Rattle.std.specs.Prelude.{unwrap_or, option_map, IfSome}
 use Rattle.wc_base.specs.declared.{who.By.By, who.Who.Who}
 use Rattle.wc_config.specs.declared.codec.CoderId.{CoderId}
-use Rattle.coder_api.specs.Lent.{Lent}
+use Rattle.coder_api.specs.Lent.{Lent, with_token}
 use Rattle.codec_model.specs.declared.entry.{Opening.Opening, Call.Call, Entry.Entry, Running.Running, Task.Task}
 use Rattle.codec_model.specs.Control.{Control, start_item, turn_closes}
 use Rattle.codec_model.specs.Replay.{State, opening_state, step, replay}
@@ -12,7 +12,7 @@ use Rattle.codec_accounts.specs.Boxes.{Act, Ends, Other, Kept, stays, act_of, la
 use Rattle.codec_accounts.specs.{Codec.is_old, ActLaws.ActMakes, ActLaws.act_makes}
 use Rattle.codec_accounts.specs.Asked.{Asked, asked_by, asked_in, asked_at}
 use Rattle.codec_accounts.specs.AskedLaws.{IsAsked, step_of, asked_is, asked_more, lets_now, LetsGo}
-use Rattle.codec_core.specs.Job.{JobValue, DoneValue, missing_id, stopped_box, IsEndOf, outcome_of}
+use Rattle.codec_core.specs.Job.{JobValue, DoneValue, missing_id, stopped_box, named_box, IsEndOf, outcome_of}
 use Rattle.codec_core.specs.declared.out.Out.{Out}
 use Rattle.codec_core.specs.Codec.{Codec, state_at, Makes, KeepsRunning, IsBy, IsAskedAt, IsOutOf, IsBack, went_out, IsKept, IsCore, RemovedValue, kept_box, handed_back, removed_if}
 use Rattle.codec_core.specs.Trace.{TraceValue}
@@ -98,8 +98,21 @@ own_stopped : (at : Option ℕ) (slot : Option Lent) → IsAskedAt at (stopped_b
 own_stopped at None own = tt
 own_stopped at (Some lent) own = own
 
+-- and so is one of which is known which it is
+named_own : (at : Option ℕ) (slot : Option Lent) → IsAskedAt at slot → IsAskedAt at (named_box slot)
+named_own at None own = tt
+named_own at (Some lent) own = own
+
+own_named : (at : Option ℕ) (slot : Option Lent) → IsAskedAt at (named_box slot) → IsAskedAt at slot
+own_named at None own = tt
+own_named at (Some lent) own = own
+
+named_is : (slot : Option Lent) → option_map (with_token None) (stopped_box slot) ≡ named_box slot
+named_is None = refl
+named_is (Some lent) = refl
+
 pub job_same : (o : Out) (a b : Option Lent) → stopped_box b ≡ stopped_box a → IsBack o a → IsBack o b
-job_same (Out.With box) a b is own = is ∙ own
+job_same (Out.With box) a b is own = sym (named_is b) ∙ (ap (option_map (with_token None)) is ∙ (named_is a ∙ own))
 job_same (Out.Asked place) a b is own = own_stopped (Some place) b (rw is (stopped_own (Some place) a own))
 
 -- whose box a job has that has none where it lacks one
@@ -112,7 +125,7 @@ none_asked o job own none = by (missing_id job) refl
 
 -- a box that comes back is asked for as what went out
 pub back_asked : (o : Out) (at : Option ℕ) (coder : Option Lent) → IsOutOf o at → IsBack o coder → IsAskedAt at coder
-back_asked (Out.With box) at coder lent back = own_stopped at coder (rw back lent)
+back_asked (Out.With box) at coder lent back = own_named at coder (rw back lent)
 back_asked (Out.Asked place) at coder lent back = rw lent back
 
 back_box : (old new : Codec) (e : Entry) (slot : Option Lent) → Makes old new e → (is_some slot ≡ true → LetsGo (act_of e (state_at old)) (state_at old)) → IsAskedAt (asked_of old) slot → GoesBack new (length old.history) slot
@@ -200,7 +213,7 @@ out_start old new job makes lacks place coder own =
     by (missing_id job) refl since
   where
     by : (o : Option CoderId) → missing_id job ≡ o → (is_some o ≡ true → asked_of new ≡ Some (length old.history)) × (o ≡ None → asked_of new ≡ (asked_in (acts_of old.opening old.history)).since) → IsOutOf (went_out (is_some o) job.place job.coder) (asked_of new)
-    by None is since = rw (since.1 refl, coder) (stopped_own (asked_of old) old.slot own)
+    by None is since = rw (since.1 refl, coder) (named_own (asked_of old) old.slot own)
     by (Some id) is since = rw place (since.0 refl)
 
 -- the job of a start is its codec's own

@@ -22,7 +22,7 @@ use Rattle.codec_model.specs.declared.entry.Entry.TheVariants as entry
 use Rattle.codec_model.specs.Shown.{each_shown, exception_of, promise_of, units_shown}
 use Rattle.codec_core.specs.declared.out.Out.{Out}
 use Rattle.codec_core.specs.declared.out.Out.TheVariants as out
-use Rattle.codec_core.specs.Job.{CoderAt, stopped_box}
+use Rattle.codec_core.specs.Job.{CoderAt, stopped_box, named_box}
 use Rattle.codec_accounts.specs.Asked.{asked_at}
 use Rattle.codec_core.specs.Trace.{TraceValue}
 
@@ -91,9 +91,9 @@ pub record OutputsWait (shown : List Shown) (waiting : List media.Unit) (k : Con
   pub took : k.taken ≤ k.shown
   pub others : waiting ≡ drop k.taken (units_shown shown)
 
--- what went out with an item at work: the box that its codec had, stopped, or by its start at this place a box is asked for
+-- what went out with an item at work: which box its codec had, or by its start at this place a box is asked for
 abbrev pub went_out : Bool → ℕ → Option Lent → Out
-went_out asks place coder = if asks then out.Asked place else out.With (stopped_box coder)
+went_out asks place coder = if asks then out.Asked place else out.With (named_box coder)
 
 -- what went out was asked for by the entry at this place
 abbrev pub IsOutOf : Out → Option ℕ → Type 0
@@ -102,7 +102,7 @@ IsOutOf (out.Asked place) at = at ≡ Some place
 
 -- the box that comes back, if one does: the one that went out, or one that was asked for by the item's start
 abbrev pub IsBack : Out → Option Lent → Type 0
-IsBack (out.With box) coder = stopped_box coder ≡ box
+IsBack (out.With box) coder = named_box coder ≡ box
 IsBack (out.Asked place) coder = IsAskedAt (Some place) coder
 
 -- the entries are the history of the machine's state, each with what it showed, and there is a place for each entry that

@@ -11,7 +11,7 @@ use Rattle.coder_api.specs.declared.coder.CoderFault.{CoderFault}
 use Rattle.coder_api.specs.declared.coder.CoderFault.TheVariants as fault
 use Rattle.codec_definitions.specs.Answers.{answer_after}
 use Rattle.coder_api.specs.Meaning.{Meaning, IsAt, IsConfigured, serves}
-use Rattle.coder_api.specs.Lent.{Lent, stopped_lent}
+use Rattle.coder_api.specs.Lent.{Lent, stopped_lent, with_token}
 use Rattle.codec_model.specs.declared.entry.Work.{Work}
 use Rattle.codec_model.specs.declared.entry.WorkKind.{WorkKind}
 use Rattle.codec_model.specs.declared.entry.Ended.{Ended}
@@ -54,6 +54,13 @@ missing_id job = missing_for job.work job.coder
 -- a box as it is handed back: stopped
 abbrev pub stopped_box : Option Lent → Option Lent
 stopped_box coder = option_map stopped_lent coder
+
+-- which box it is: all of it but what its coder means, and its token
+abbrev pub named_lent : Lent → Lent
+named_lent lent = with_token None (stopped_lent lent)
+
+abbrev pub named_box : Option Lent → Option Lent
+named_box coder = option_map named_lent coder
 
 -- a box that is asked for commands is configured
 abbrev pub IsReadyBox : Option Lent → Type 0

@@ -1,6 +1,6 @@
 // What goes out with an item at work.
-ghost use Rattle.std.specs.Prelude.{◌≡◌, None, option_map};
-ghost use Rattle.coder_api.specs.Lent.{stopped_lent};
+ghost use Rattle.std.specs.Prelude.{◌≡◌, option_map};
+ghost use Rattle.codec_core.specs.Job.{named_lent};
 ghost use Rattle.codec_core.specs.Codec.{went_out};
 
 use coder_api::{Coder, SlotBox};
@@ -17,12 +17,13 @@ pub struct BoxName {
 }
 
 impl Model for BoxName {
+    ghost use Rattle.std.specs.Prelude.{None};
     ghost use Rattle.coder_api.specs.Lent.{Lent};
     ghost use Rattle.coder_api.specs.Meaning.{Stopped};
 
     ghost Value = { Lent };
 
-    ghost view = { λ b. record { id = b.id; meaning = Stopped; number = b.number; by = b.by } };
+    ghost view = { λ b. record { id = b.id; meaning = Stopped; number = b.number; by = b.by; token = None } };
 }
 
 /// What went out with the item at work.
@@ -36,7 +37,7 @@ pub enum Out {
 
 /// Which box it is.
 fn name_of<C: Coder>(coder: &SlotBox<C>) -> BoxName
-    ensures { result ≡ stopped_lent coder.now }
+    ensures { result ≡ named_lent coder.now }
 {
     BoxName {
         id: coder.id(),
