@@ -40,7 +40,10 @@ fn fault_of(alloc: Global, bytes: &[u8]) -> Result<Option<DemuxFault>, NoMemory>
 #[test]
 fn two_frames(rt: HostRuntime) -> Result<(), Fail> {
     let flac = read(rt.alloc(), &FRAMES[..73])?.ok_or("refused")?;
-    assert_eq!(rt; (flac.info.rate, flac.info.channels, flac.info.depth), (44100, 2, 16));
+    assert_eq!(rt;
+        (flac.info.rate, flac.info.channels, flac.info.depth),
+        (44100, 2, 16)
+    );
     assert_eq!(rt; flac.frames, 3);
     let chunks = flac.chunks.as_slice();
     assert_eq!(rt; chunks.len(), 2);

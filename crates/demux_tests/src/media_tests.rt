@@ -15,7 +15,10 @@ fn each_kind_of_file(rt: HostRuntime) -> Result<(), Fail> {
     let alloc = rt.alloc();
     let wav = matches!(read_media_file(alloc, &TWO_FRAMES), Ok(MediaFile::Wav(_)));
     assert!(rt; wav);
-    let flac = matches!(read_media_file(alloc, &FRAMES[..73]), Ok(MediaFile::Flac(_)));
+    let flac = matches!(
+        read_media_file(alloc, &FRAMES[..73]),
+        Ok(MediaFile::Flac(_))
+    );
     assert!(rt; flac);
     let chunks = matches!(read_media_file(alloc, &CHUNK), Ok(MediaFile::Chunks(_)));
     assert!(rt; chunks);

@@ -104,7 +104,10 @@ fn cut_answer(n: u64) -> Option<DemuxFault> {
 #[test]
 fn cut_files(rt: HostRuntime) -> Result<(), Fail> {
     for n in 0..49 {
-        assert_eq!(rt; fault_of(rt.alloc(), &TWO_FRAMES[..n])?, cut_answer(n as u64));
+        assert_eq!(rt;
+            fault_of(rt.alloc(), &TWO_FRAMES[..n])?,
+            cut_answer(n as u64)
+        );
     }
     Ok(())
 }

@@ -3,6 +3,9 @@ use Rattle.std.proofs.Common.{◌≡◌, inl, inr, ⊎_elim, ℕ, zero, suc, ◌
 use Rattle.std.specs.Prelude.{nat_lt, nat_le, slice_index}
 use Rattle.chunk_files.specs.declared.fault.DemuxFault.{DemuxFault}
 use Rattle.chunk_files.specs.declared.fault.DemuxFault.TheVariants as fault
+use Rattle.chunk_files.specs.declared.fault.Stop.{Stop}
+use Rattle.chunk_files.specs.declared.fault.Stop.TheVariants as stop
+use Rattle.chunk_files.specs.Stops.{IfFault}
 use Rattle.wc_chunk.specs.declared.chunk.Chunk.{Chunk}
 use Rattle.wc_config.specs.declared.stream_info.StreamInfo.{StreamInfo}
 use Rattle.wc_config.specs.Streams.{streaminfo_of}
@@ -150,3 +153,26 @@ pub file_joined : (bytes : List ℕ) (f : Flac) → IsFlacFile f bytes → (plac
 file_joined bytes f p =
     let whole : joined f.chunks ≡ drop p.place bytes = sym (append-nil (joined f.chunks)) ∙ frames_joined f.info f.chunks 0 f.frames (drop p.place bytes) [] p.content in
     (p.place, p.head, ap (λ (xs : List ℕ). take p.place bytes ++ xs) whole ∙ take-append-drop p.place bytes)
+
+-- a fault that has more to it
+pub follows : {F : Type 0} (e : Stop F) (P Q : F → Type 0) → ((f : F) → P f → Q f) → IfFault e P → IfFault e Q
+follows (stop.Fault f) P Q each h = each f h
+follows stop.NoMemory P Q each h = tt
+
+-- where no frame is in front behind frames, a file has its fault
+pub front_fault : (bytes rest : List ℕ) (info : StreamInfo) (place at after : ℕ) (chunks : List Chunk) → rest ≡ drop at bytes → at < length bytes → head_of bytes ≡ Ok (info, place)
+    → BeginsWithFrames info 0 after chunks (drop place bytes) (drop at bytes) → (e : DemuxFault) → (e ≡ fault.BadFlac at) × EndsAt info rest None → IsFlacFault bytes e
+front_fault bytes rest info place at after chunks is lt head before e h =
+    let found : FollowsFrames bytes at = record {
+      info = info;
+      place = place;
+      head = head;
+      after = after;
+      chunks = chunks;
+      rest = drop at bytes;
+      before = before;
+      some = omega (arith, lt, length-drop at bytes);
+      is_place = omega (arith, lt, length-drop at bytes);
+      none = subst (λ (xs : List ℕ). EndsAt info xs None) is h.1;
+    } in
+    subst (λ (x : DemuxFault). IsFlacFault bytes x) (sym h.0) (inr found)

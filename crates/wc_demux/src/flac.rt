@@ -3,6 +3,7 @@ ghost use Rattle.std.specs.Prelude.{◌≡◌, ◌≤◌, ◌++◌, ◌*◌, ℕ
 ghost use Rattle.chunk_files.specs.Stops.{IfFault};
 ghost use Rattle.chunk_files.specs.declared.fault.DemuxFault.{DemuxFault};
 ghost use Rattle.chunk_files.specs.declared.fault.Stop.TheVariants as stop;
+ghost use Rattle.flac_decode.specs.FrameEnd.{EndsAt, IsFront};
 ghost use Rattle.wc_demux.specs.Wav.{joined};
 ghost use Rattle.wc_demux.specs.Flac.{IsFlacFault, IsFlacFile, frame_chunk, head_of};
 ghost use Rattle.wc_demux.specs.declared.flac.Flac.{Flac};
@@ -11,7 +12,7 @@ use crate::blocks::head_of;
 use crate::parts::tail;
 use bytes::Bytes;
 use chunk_files::{DemuxFault, Stop};
-use flac_decode::{frames_are_found, front_frame};
+use flac_decode::{FrontFrame, frames_are_found, front_frame};
 use std::alloc::Global;
 use wc_base::{List, NoMemory};
 use wc_chunk::Chunk;
@@ -65,9 +66,9 @@ fn read_all(alloc: Global, bytes: &[u8]) -> Result<Flac, Stop<DemuxFault>>
     let mut at = place;
     while at < bytes.len() {
         let rest = tail(bytes, at);
-        let front = match front_frame(rest, &info, &mut residual, &mut samples)? {
-            Some(front) => front,
-            None => return Err(Stop::Fault(DemuxFault::BadFlac { at: at as u64 })),
+        let front = match front_at(at as u64, rest, &info, &mut residual, &mut samples) {
+            Ok(front) => front,
+            Err(stop) => return Err(stop),
         };
         let chunk = chunk_of(alloc, &info, frames, front.block, &rest[..front.size])?;
         chunks.reserve(1)?;
@@ -80,6 +81,24 @@ fn read_all(alloc: Global, bytes: &[u8]) -> Result<Flac, Stop<DemuxFault>>
         frames,
         chunks: List::of(chunks),
     })
+}
+
+/// The frame in front of bytes that stand at a place of their file.
+fn front_at(
+    at: u64,
+    bytes: &[u8],
+    info: &StreamInfo,
+    residual: &mut Vec<i32>,
+    samples: &mut Vec<i64>,
+) -> Result<FrontFrame, Stop<DemuxFault>>
+    ensures found { IfOk result (λ f. IsFront info.now bytes.now (Some f)) }
+    ensures none { IfErr result (λ e. IfFault e
+        (λ f. (f ≡ DemuxFault.BadFlac at) × EndsAt info.now bytes.now None)) }
+{
+    match front_frame(bytes, info, residual, samples)? {
+        Some(front) => Ok(front),
+        None => Err(Stop::Fault(DemuxFault::BadFlac { at })),
+    }
 }
 
 /// The chunk of a frame of so many samples a channel, with so many before it.
