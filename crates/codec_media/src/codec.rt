@@ -6,7 +6,8 @@ ghost use Rattle.codec_model.specs.Held.{in_order, running_pairs, adds_held, let
 ghost use Rattle.codec_model.specs.Replay.{may_call, sends, encode_error, missing_coder};
 ghost use Rattle.codec_core.specs.Job.{IsJobOf, IsEndOf, outcome_of, missing_id, stopped_box};
 ghost use Rattle.codec_core.specs.Owning.{IsOwnJob, GoesBack};
-ghost use Rattle.codec_core.specs.Codec.{state_at, Makes, IsBack, KeepsRunning, Replied, kept_box, handed_back, closes_now, item_parts};
+ghost use Rattle.codec_core.specs.Codec.{state_at, Makes, IsBack, KeepsRunning, Replied, kept_box, handed_back};
+ghost use Rattle.codec_core.specs.Codec.{closes_now, item_parts, went_out};
 ghost use Rattle.codec_media.specs.Holding.{pair_of, all_of, SameHeld, LetsGo, own_reply, media_gone, media_left};
 
 use crate::queue::{is_removed, let_go, let_go_if, room_for, take_if, with_media};
@@ -225,6 +226,9 @@ impl<C: Coder> HoldingCore<C> {
         ensures lacks { IfSome result
             (λ job. missing_id job ≡ missing_coder (state_at self.old.codec).given job.work) }
         ensures slot { OnSome result (self.new.codec.slot ≡ None) }
+        ensures out { IfSome result
+            (λ job. self.new.codec.out
+            ≡ went_out (is_some (missing_id job)) job.place job.coder) }
         ensures own { IfSome result (IsOwnJob self.new.codec.out) }
         ensures lets { IfSome result
             (λ job. is_some (missing_id job) ≡ true → GoesBack self.new.codec job.place job.coder) }

@@ -27,7 +27,7 @@ fn is_known(form: Form, name: &[u8]) -> bool {
 // The word of a step and what it has. The word stands first in most steps, which are then read once.
 fn work_of(text: &[u8], step: usize) -> Option<(&[u8], Form)> {
     let at = match next_name(text, inside(step)) {
-        Some(name) if name.text == b"do" => name.value,
+        Some(name) if name.text == b"do".as_slice() => name.value,
         _ => find_member(text, step, b"do")?,
     };
     let word = string_at(text, at)?;
@@ -152,7 +152,7 @@ impl<'n, 't> Warner<'n, 't> {
                 }
                 b"init" if is_known(form, b"init") => self.flat(name.value, Form::Init)?,
                 member => {
-                    if member != b"do" && !is_known(form, member) {
+                    if member != b"do".as_slice() && !is_known(form, member) {
                         self.tell(name.at, word)?;
                     }
                     past_value(text, name.value)

@@ -15,7 +15,7 @@ use seat_lock::Passage;
 use std::snapshot::Snapshot;
 use std::sync::Wait;
 use wc_base::{By, NoMemory};
-use wc_pool::{references_are_apart, MediaRef, PoolEntry, PoolOp, RefPool};
+use wc_pool::{MediaRef, PoolEntry, PoolOp, RefPool, references_are_apart};
 
 // The passage of a clone: its entry, or a look where there was no memory.
 fn clone_passage(by: By, clone: &Result<MediaRef, NoMemory>) -> Passage<Snapshot<PoolEntry>>
