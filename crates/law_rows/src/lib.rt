@@ -2,6 +2,8 @@
 //! row.
 #![tactic(auto)]
 
+#[cfg(test)]
+mod codec_laws_tests;
 mod rows;
 
 pub use rows::{closing_run, resetting_run, saturating_run, unsupported_run};

@@ -1,20 +1,24 @@
 // The laws' definitions on whole runs, computed by the checker.
-ghost use Rattle.law_rows.specs.Rows.{ResettingPlaces, SaturatingPlaces, SaturatingFalls, ClosingEnds, UnsupportedEnds};
+ghost use Rattle.codec_model.specs.Replay.{IsLegal};
+ghost use Rattle.law_rows.specs.Rows.{four, two, closing, resetting, saturating, ResettingPlaces, SaturatingPlaces, SaturatingFalls, ClosingEnds, UnsupportedEnds};
 
 /// A reset while an item is at work: what comes of it is not shown.
 pub fn resetting_run()
-    ensures { ResettingPlaces }
+    ensures legal { IsLegal four resetting }
+    ensures places { ResettingPlaces }
 {}
 
 /// Three decodes where two items saturate the codec.
 pub fn saturating_run()
+    ensures legal { IsLegal two saturating }
     ensures places { SaturatingPlaces }
     ensures falls { SaturatingFalls }
 {}
 
 /// Two flushes, two closes, and one more flush.
 pub fn closing_run()
-    ensures { ClosingEnds }
+    ensures legal { IsLegal four closing }
+    ensures ends { ClosingEnds }
 {}
 
 /// A flush behind a configure whose config is not supported.
