@@ -137,13 +137,7 @@ impl<C: Coder> SlotRegistry<C> {
     }
 
     /// A box comes back, by one passage, and by a later entry of the codec that acquired it.
-    pub fn give_back<R: Wait>(
-        &self,
-        rt: &R,
-        seat: &mut SlotSeat<C>,
-        by: By,
-        mut slot: SlotBox<C>,
-    )
+    pub fn give_back<R: Wait>(&self, rt: &R, seat: &mut SlotSeat<C>, by: By, mut slot: SlotBox<C>)
         requires seat { IsFree self.now.id seat.old }
         requires out { IsOut self.now.id slot }
         requires later { is_later slot.by by ≡ true }
