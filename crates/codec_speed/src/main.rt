@@ -1,6 +1,8 @@
 //! Runs one decoder of linear PCM alone, with no script and no registry, to measure what its steps cost: `codec_speed
 //! decodes N` makes so many decodes, each shown before the next one, and `codec_speed flushes N` so many flushes, all of
-//! them called before any is resolved. It prints how many outputs were shown, or how many promises resolved.
+//! them called before any is resolved. `codec_speed tasks N` makes so many decodes whose outputs wait, and `codec_speed
+//! resets N` the same and then a reset. It prints how many outputs were shown, how many promises resolved, or how many
+//! entries there are.
 #![tactic(auto)]
 
 ghost use Rattle.std.specs.Prelude.{◌≡◌, None, is_some, true};
@@ -50,10 +52,10 @@ fn chunk(alloc: Global) -> Result<Chunk, NoMemory> {
 }
 
 // Gives a job the box that it lacks.
-fn with_box(mut job: Job<SampleCoder>) -> Job<SampleCoder>
-    ensures stays { (s : State) → IsJobOf s job → IsJobOf s result }
-    ensures own { (out : Out) → IsOwnJob out job → IsOwnJob out result }
-    ensures empty { is_some (missing_id result) ≡ true → result.coder ≡ None }
+fn give_box(job: &mut Job<SampleCoder>)
+    ensures stays { (s : State) → IsJobOf s job.old → IsJobOf s job.new }
+    ensures own { (out : Out) → IsOwnJob out job.old → IsOwnJob out job.new }
+    ensures empty { is_some (missing_id job.new) ≡ true → job.new.coder ≡ None }
 {
     if job.lacks().is_some() {
         let _ = job.take_box();
@@ -70,13 +72,12 @@ fn with_box(mut job: Job<SampleCoder>) -> Job<SampleCoder>
             job.put_box(coder);
         }
     }
-    job
 }
 
 // Starts the front item, does its job and ends it.
 fn work(alloc: Global, core: &mut Core<SampleCoder>, moment: u64) {
-    if let Some(job) = core.start() {
-        let job = with_box(job);
+    if let Some(mut job) = core.start() {
+        give_box(&mut job);
         if job.lacks().is_some() {
             core.done(job.no_memory(), moment);
         } else {
@@ -135,6 +136,21 @@ fn flushes(alloc: Global, count: u64) -> Result<usize, NoMemory> {
     Ok(resolved)
 }
 
+// So many decodes whose outputs wait, and then a reset where it is wanted; how many entries there are.
+fn tasks(alloc: Global, count: u64, resets: bool) -> Result<usize, NoMemory> {
+    let mut core = open(alloc)?;
+    let chunk = chunk(alloc)?;
+    for moment in 0..count {
+        core.call(WHO, Call::Decode(chunk.copy()?))?;
+        work(alloc, &mut core, moment);
+    }
+    core.reserve(1)?;
+    if resets {
+        core.call(WHO, Call::Reset)?;
+    }
+    Ok(core.history().len())
+}
+
 fn words(rt: &(impl Env + Alloc<A = Global>)) -> io::Result<Vec<String>> {
     let mut words = Vec::new(rt.alloc());
     for word in env::args(rt)?.skip(1) {
@@ -151,6 +167,8 @@ fn measure(alloc: Global, words: &[String]) -> Result<Option<usize>, NoMemory> {
     match (work.as_str(), count.as_str().parse::<u64>()) {
         ("decodes", Ok(count)) => Ok(Some(decodes(alloc, count)?)),
         ("flushes", Ok(count)) => Ok(Some(flushes(alloc, count)?)),
+        ("tasks", Ok(count)) => Ok(Some(tasks(alloc, count, false)?)),
+        ("resets", Ok(count)) => Ok(Some(tasks(alloc, count, true)?)),
         _ => Ok(None),
     }
 }

@@ -177,3 +177,17 @@ fn ordinary_run(rt: HostRuntime) -> Result<(), Fail> {
     );
     Ok(())
 }
+
+#[test]
+fn each_of_many_flushes_is_rejected(rt: HostRuntime) -> Result<(), Fail> {
+    let alloc = rt.alloc();
+    let mut core: Core<Quiet> = Core::open(alloc, Kind::AudioDecoder, 4, 0).expect(&rt, "a codec");
+    for _flush in 0..1025 {
+        assert!(rt; core.call(WHO, Call::Flush).is_ok());
+    }
+    let rejected = PromiseState::Rejected(DomError::InvalidState);
+    assert_eq!(rt; (core.end_of(0), core.end_of(1024)), (rejected, rejected));
+    assert_eq!(rt; core.end_of(1025), PromiseState::Pending);
+    assert_eq!(rt; core.history().len(), 1025);
+    Ok(())
+}

@@ -51,7 +51,7 @@ fn units(alloc: Global) -> Result<List<Unit>, AllocError> {
 fn call(machine: &mut Machine, call: Call) -> bool {
     machine.place() < 100
         && machine
-            .call(call)
+            .call(&call)
             .is_ok_and(|answer| answer.exception.is_none())
 }
 
@@ -204,5 +204,47 @@ fn key_chunks_of_video_are_looked_at(rt: HostRuntime) -> Result<(), Fail> {
     assert!(rt; call(&mut machine, decode(alloc, true, &[0, 1, 2, 3])?));
     let not_wanted: [(bool, &[u8], bool); 2] = [(true, &[1], false), (false, &[1], false)];
     each_is_refused(&rt, alloc, &machine, &not_wanted)?;
+    Ok(())
+}
+
+// Decodes a chunk up to the end of its item.
+fn decodes(alloc: Global, machine: &mut Machine, moment: u64) -> Result<bool, AllocError> {
+    Ok(
+        call(machine, chunk(alloc)?)
+            && start(machine)
+            && ends(machine, Ended::Ran(units(alloc)?), moment),
+    )
+}
+
+// An output, a dequeue event and an output wait.
+fn waits(alloc: Global, machine: &mut Machine) -> Result<bool, AllocError> {
+    let none = List::empty(alloc);
+    let configured = call(machine, pcm(alloc)?) && work(machine, Ended::Ran(none), 1);
+    Ok(
+        configured
+            && turn(machine)
+            && decodes(alloc, machine, 2)?
+            && turn(machine)
+            && decodes(alloc, machine, 3)?,
+    )
+}
+
+#[test]
+fn removed_tasks_are_passed_over(rt: HostRuntime) -> Result<(), Fail> {
+    let alloc = rt.alloc();
+    let opening = Opening {
+        kind: Kind::AudioDecoder,
+        saturation: 4,
+    };
+    let mut machine = Machine::open(alloc, opening).expect(&rt, "a machine");
+    assert!(rt; waits(alloc, &mut machine)?);
+    assert!(rt; call(&mut machine, Call::Reset));
+    let events = shown(alloc, &mut machine).expect(&rt, "a dequeue event");
+    assert_eq!(rt; events.as_slice(), [Event::Dequeue].as_slice());
+    assert!(rt; shown(alloc, &mut machine).is_none());
+    assert!(rt; call(&mut machine, pcm(alloc)?));
+    assert!(rt; work(&mut machine, Ended::Ran(List::empty(alloc)), 4));
+    assert!(rt; turn(&mut machine));
+    assert!(rt; shown(alloc, &mut machine).is_none());
     Ok(())
 }
