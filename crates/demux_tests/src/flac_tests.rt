@@ -109,16 +109,3 @@ fn faults_of_one_byte(rt: HostRuntime) -> Result<(), Fail> {
     }
     Ok(())
 }
-
-#[test]
-fn blocks_behind_the_first_are_passed_over(rt: HostRuntime) -> Result<(), Fail> {
-    let alloc = rt.alloc();
-    let mut file = Vec::from_slice(alloc, &with_byte(4, 0)[..42])?;
-    file.extend_from_slice(&[0x84, 0, 0, 3, 1, 2, 3])?;
-    file.extend_from_slice(&FRAMES[42..73])?;
-    let flac = read(alloc, &file[..80])?.ok_or("refused")?;
-    assert_eq!(rt; (flac.frames, flac.chunks.len()), (3, 2));
-    let fault = fault_of(alloc, &file[..48])?;
-    assert_eq!(rt; fault, Some(DemuxFault::BadFlac { at: 42 }));
-    Ok(())
-}
