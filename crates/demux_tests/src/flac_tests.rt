@@ -79,33 +79,3 @@ fn cut_files(rt: HostRuntime) -> Result<(), Fail> {
     }
     Ok(())
 }
-
-fn with_byte(at: usize, byte: u8) -> [u8; 74] {
-    let mut file = FRAMES;
-    if at < 74 {
-        file[at] = byte;
-    }
-    file
-}
-
-#[test]
-fn faults_of_one_byte(rt: HostRuntime) -> Result<(), Fail> {
-    for (at, byte, place) in [
-        // Another mark, another first block, another size of it, and a depth of 3.
-        (0, 0x46, 0),
-        (4, 0x81, 0),
-        (7, 0x21, 0),
-        (21, 0x20, 0),
-        // A stream of one channel, of which the first frame is none.
-        (20, 0x40, 42),
-        // The first block is not the last, and the frames are taken for one that is cut.
-        (4, 0x00, 42),
-        // Another sum of the first frame's header, and of the second frame.
-        (48, 0xbe, 42),
-        (72, 0x25, 57),
-    ] {
-        let fault = fault_of(rt.alloc(), &with_byte(at, byte)[..73])?;
-        assert_eq!(rt; fault, Some(DemuxFault::BadFlac { at: place }));
-    }
-    Ok(())
-}
