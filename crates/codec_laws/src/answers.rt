@@ -80,6 +80,23 @@ fn output_at(outputs: &[Output], number: u64) -> Option<Output>
     outputs.get(number).copied()
 }
 
+// The output of a history with a number.
+fn own_output(
+    alloc: Global,
+    opening: Opening,
+    history: &[Entry],
+    number: u64,
+) -> Result<Option<Output>, NoMemory>
+    requires { IsLegal opening history.now }
+    ensures output { IfOk result (λ a. a ≡ output_of opening history.now number) }
+    ensures own { IsOwnOutput opening history.now number }
+{
+    nothing_old();
+    let seen = sights(alloc, opening, history)?;
+    let outputs = outputs(alloc, &seen)?;
+    Ok(output_at(&outputs, number))
+}
+
 /// The place of the call whose item gave an output, and of the turn that showed it. Outputs are numbered from 0 as they are
 /// shown; `None` exactly where the history shows no output of that number.
 pub fn output_source(
@@ -93,10 +110,7 @@ pub fn output_source(
         (λ a. a ≡ option_map call_and_turn (output_of opening history.now number)) }
     ensures own { IsOwnOutput opening history.now number }
 {
-    nothing_old();
-    let seen = sights(alloc, opening, history)?;
-    let outputs = outputs(alloc, &seen)?;
-    Ok(match output_at(&outputs, number) {
+    Ok(match own_output(alloc, opening, history, number)? {
         Some(output) => Some((output.source.call, output.turn)),
         None => None,
     })
@@ -115,10 +129,7 @@ pub fn output_configuration(
         (λ a. a ≡ option_map configure_and_index (output_of opening history.now number)) }
     ensures own { IsOwnOutput opening history.now number }
 {
-    nothing_old();
-    let seen = sights(alloc, opening, history)?;
-    let outputs = outputs(alloc, &seen)?;
-    Ok(match output_at(&outputs, number) {
+    Ok(match own_output(alloc, opening, history, number)? {
         Some(output) => Some((output.source.configure, output.source.index)),
         None => None,
     })
