@@ -1,5 +1,5 @@
 #!/usr/bin/env bash
-# Times `wcrun probe` beside `flac -d` and `sox` on ten minutes of sound, two channels at 44.1 kHz and 16 bits, and shows the
+# Times `wcrun probe`, a command that is not built yet, beside `flac -d` and `sox` on ten minutes of sound, two channels at 44.1 kHz and 16 bits, and shows the
 # memory of each; then the same on one minute, with instructions: tools/sound-speed.sh [PROGRAM]
 # probe reads each frame of a FLAC file whole, as flac -d does; of a WAV file it reads the parts and makes the chunks.
 # Wants flac, sox, /usr/bin/time and valgrind.
