@@ -5,3 +5,4 @@ pub mod BlockLaws
 pub mod FrameLaws
 pub mod FlacLaws
 pub mod MediaLaws
+mod WithinLaws

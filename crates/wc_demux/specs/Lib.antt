@@ -3,3 +3,4 @@ pub mod Facts
 pub mod Wav
 pub mod Flac
 pub mod Media
+pub mod Within

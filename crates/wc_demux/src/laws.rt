@@ -2,6 +2,7 @@
 ghost use Rattle.std.specs.Prelude.{◌≡◌, ℕ, List};
 ghost use Rattle.chunk_files.specs.declared.fault.MediaFault.{MediaFault};
 ghost use Rattle.wc_demux.specs.Media.{IsMediaFault, IsMediaFile, IsMediaRead};
+ghost use Rattle.wc_demux.specs.Within.{MediaAreSmall};
 ghost use Rattle.wc_demux.specs.declared.media.MediaFile.{MediaFile};
 
 use chunk_files::bytes_have_one_reading;
@@ -18,5 +19,13 @@ pub fn files_have_one_reading()
     ensures some { (bytes : List ℕ) → IsMediaRead bytes }
 {
     bytes_have_one_reading();
+    frames_are_found();
+}
+
+/// What the chunks of media files hold is within its types, where the files hold bytes, and no more than a file may have:
+/// timestamps have 64 bits with their sign, durations 64, and each chunk holds bytes.
+pub fn media_are_small()
+    ensures { MediaAreSmall }
+{
     frames_are_found();
 }
