@@ -1,18 +1,19 @@
--- The chunk files of a script have one reading, as the bytes of a chunk file have.
+-- The chunk files of a script have one reading, as the bytes of a media file have.
 use Rattle.std.proofs.Common.{ℕ, ◌≡◌, ◌+◌, ◌-◌, ◌<◌, ◌≤◌, inl, inr, true, false, List, [], ◌∷◌, Option, Some, None, Result, Ok, Err, refl, ap, sym, subst, ◌∙◌, arith}
 use Rattle.wc_chunk.specs.declared.chunk.Chunk.{Chunk}
-use Rattle.chunk_files.specs.{declared.fault.ChunkFault.ChunkFault, Grammar.IsChunkFile, Grammar.IsFirstFault, declared.fault.Stop.Stop}
+use Rattle.chunk_files.specs.declared.fault.{MediaFault.MediaFault, Stop.Stop}
+use Rattle.wc_demux.specs.{Media.IsMediaFile, Media.IsMediaFault, Media.media_chunks, declared.media.MediaFile.MediaFile}
 use Rattle.script_types.specs.declared.fault.{Counted.Counted, Fault.Fault}
 use Rattle.media_files.specs.Media.{Answer, Answers, media_of, are_small, AreChunks, FileGives, FilesGive}
 
 abbrev pub OneFile : Type 0
-OneFile = (bytes : List ℕ) (one other : List Chunk) → IsChunkFile one bytes → IsChunkFile other bytes → one ≡ other
+OneFile = (bytes : List ℕ) (one other : MediaFile) → IsMediaFile one bytes → IsMediaFile other bytes → one ≡ other
 
 abbrev pub OneFault : Type 0
-OneFault = (bytes : List ℕ) (one other : ChunkFault) → IsFirstFault bytes one → IsFirstFault bytes other → one ≡ other
+OneFault = (bytes : List ℕ) (one other : MediaFault) → IsMediaFault bytes one → IsMediaFault bytes other → one ≡ other
 
 abbrev pub Apart : Type 0
-Apart = (bytes : List ℕ) (chunks : List Chunk) (e : ChunkFault) → IsChunkFile chunks bytes → IsFirstFault bytes e → ⊥
+Apart = (bytes : List ℕ) (medium : MediaFile) (e : MediaFault) → IsMediaFile medium bytes → IsMediaFault bytes e → ⊥
 
 -- what is known of the bytes of one file
 pub record OneOfEach : Type 0 where
@@ -28,7 +29,7 @@ too_many : (room : ℕ) (a b : List Chunk) → a ≡ b → media_of a ≤ room �
 too_many room a b is le lt = absurd (omega (arith, ap media_of is))
 
 same : (k : OneOfEach) (bytes : List ℕ) (a b : List Chunk) → AreChunks bytes a → AreChunks bytes b → a ≡ b
-same k bytes a b p q = k.file bytes a b p.file q.file
+same k bytes a b p q = p.holds ∙ (ap media_chunks (k.file bytes p.medium q.medium p.file q.file) ∙ sym q.holds)
 
 -- a file gives one answer
 pub one_answer : (k : OneOfEach) (room : ℕ) (name : List ℕ) (bytes : Option (List ℕ)) (a b : Answer) → FileGives room name bytes a → FileGives room name bytes b → a ≡ b
@@ -44,26 +45,26 @@ one_answer k room name (Some bytes) (Err (Stop.Fault (Fault.TooMany Counted.File
 one_answer k room name (Some bytes) (Err (Stop.Fault (Fault.Chunks x e))) (Err (Stop.Fault (Fault.TooMany Counted.File))) (is, le, h) q = absurd (omega arith)
 one_answer k room name (Some bytes) (Err (Stop.Fault (Fault.Chunks x e))) (Err (Stop.Fault (Fault.Chunks y f))) (is, le, h) (js, le', g) = same_chunks x y e f (is ∙ sym js) (k.fault bytes e f h g)
   where
-    same_chunks : (x y : List ℕ) (e f : ChunkFault) → x ≡ y → e ≡ f → ◌≡◌ {A = Answer} (Err (Stop.Fault (Fault.Chunks x e))) (Err (Stop.Fault (Fault.Chunks y f)))
+    same_chunks : (x y : List ℕ) (e f : MediaFault) → x ≡ y → e ≡ f → ◌≡◌ {A = Answer} (Err (Stop.Fault (Fault.Chunks x e))) (Err (Stop.Fault (Fault.Chunks y f)))
     same_chunks x y e f p q = cc
-one_answer k room name (Some bytes) (Err (Stop.Fault (Fault.Chunks x e))) (Err (Stop.Fault (Fault.TooMany Counted.Chunk))) (is, le, h) (cs, g, small) = absurd (k.apart bytes cs e g.file h)
-one_answer k room name (Some bytes) (Err (Stop.Fault (Fault.Chunks x e))) (Err (Stop.Fault (Fault.TooMany Counted.Media))) (is, le, h) (cs, g, small, lt) = absurd (k.apart bytes cs e g.file h)
-one_answer k room name (Some bytes) (Err (Stop.Fault (Fault.Chunks x e))) (Ok cs) (is, le, h) (g, small, fits) = absurd (k.apart bytes cs e g.file h)
+one_answer k room name (Some bytes) (Err (Stop.Fault (Fault.Chunks x e))) (Err (Stop.Fault (Fault.TooMany Counted.Chunk))) (is, le, h) (cs, g, small) = absurd (k.apart bytes g.medium e g.file h)
+one_answer k room name (Some bytes) (Err (Stop.Fault (Fault.Chunks x e))) (Err (Stop.Fault (Fault.TooMany Counted.Media))) (is, le, h) (cs, g, small, lt) = absurd (k.apart bytes g.medium e g.file h)
+one_answer k room name (Some bytes) (Err (Stop.Fault (Fault.Chunks x e))) (Ok cs) (is, le, h) (g, small, fits) = absurd (k.apart bytes g.medium e g.file h)
 one_answer k room name (Some bytes) (Err (Stop.Fault (Fault.Chunks x e))) b p q = elim q [ ]
 one_answer k room name (Some bytes) (Err (Stop.Fault (Fault.TooMany Counted.Chunk))) (Err (Stop.Fault (Fault.TooMany Counted.File))) (cs, h, small) q = absurd (omega (arith, h.short))
-one_answer k room name (Some bytes) (Err (Stop.Fault (Fault.TooMany Counted.Chunk))) (Err (Stop.Fault (Fault.Chunks y f))) (cs, h, small) (is, le, g) = absurd (k.apart bytes cs f h.file g)
+one_answer k room name (Some bytes) (Err (Stop.Fault (Fault.TooMany Counted.Chunk))) (Err (Stop.Fault (Fault.Chunks y f))) (cs, h, small) (is, le, g) = absurd (k.apart bytes h.medium f h.file g)
 one_answer k room name (Some bytes) (Err (Stop.Fault (Fault.TooMany Counted.Chunk))) (Err (Stop.Fault (Fault.TooMany Counted.Chunk))) p q = refl
 one_answer k room name (Some bytes) (Err (Stop.Fault (Fault.TooMany Counted.Chunk))) (Err (Stop.Fault (Fault.TooMany Counted.Media))) (cs, h, small) (ds, g, small', lt) = absurd (not_both ds cs (same k bytes ds cs g h) small' small)
 one_answer k room name (Some bytes) (Err (Stop.Fault (Fault.TooMany Counted.Chunk))) (Ok ds) (cs, h, small) (g, small', le) = absurd (not_both ds cs (same k bytes ds cs g h) small' small)
 one_answer k room name (Some bytes) (Err (Stop.Fault (Fault.TooMany Counted.Chunk))) b p q = elim q [ ]
 one_answer k room name (Some bytes) (Err (Stop.Fault (Fault.TooMany Counted.Media))) (Err (Stop.Fault (Fault.TooMany Counted.File))) (cs, h, small, lt) q = absurd (omega (arith, h.short))
-one_answer k room name (Some bytes) (Err (Stop.Fault (Fault.TooMany Counted.Media))) (Err (Stop.Fault (Fault.Chunks y f))) (cs, h, small, lt) (is, le, g) = absurd (k.apart bytes cs f h.file g)
+one_answer k room name (Some bytes) (Err (Stop.Fault (Fault.TooMany Counted.Media))) (Err (Stop.Fault (Fault.Chunks y f))) (cs, h, small, lt) (is, le, g) = absurd (k.apart bytes h.medium f h.file g)
 one_answer k room name (Some bytes) (Err (Stop.Fault (Fault.TooMany Counted.Media))) (Err (Stop.Fault (Fault.TooMany Counted.Chunk))) (cs, h, small, lt) (ds, g, small') = absurd (not_both cs ds (same k bytes cs ds h g) small small')
 one_answer k room name (Some bytes) (Err (Stop.Fault (Fault.TooMany Counted.Media))) (Err (Stop.Fault (Fault.TooMany Counted.Media))) p q = refl
 one_answer k room name (Some bytes) (Err (Stop.Fault (Fault.TooMany Counted.Media))) (Ok ds) (cs, h, small, lt) (g, small', le) = absurd (too_many room ds cs (same k bytes ds cs g h) le lt)
 one_answer k room name (Some bytes) (Err (Stop.Fault (Fault.TooMany Counted.Media))) b p q = elim q [ ]
 one_answer k room name (Some bytes) (Ok cs) (Err (Stop.Fault (Fault.TooMany Counted.File))) (h, small, le) q = absurd (omega (arith, h.short))
-one_answer k room name (Some bytes) (Ok cs) (Err (Stop.Fault (Fault.Chunks y f))) (h, small, le) (is, le', g) = absurd (k.apart bytes cs f h.file g)
+one_answer k room name (Some bytes) (Ok cs) (Err (Stop.Fault (Fault.Chunks y f))) (h, small, le) (is, le', g) = absurd (k.apart bytes h.medium f h.file g)
 one_answer k room name (Some bytes) (Ok cs) (Err (Stop.Fault (Fault.TooMany Counted.Chunk))) (h, small, le) (ds, g, small') = absurd (not_both cs ds (same k bytes cs ds h g) small small')
 one_answer k room name (Some bytes) (Ok cs) (Err (Stop.Fault (Fault.TooMany Counted.Media))) (h, small, le) (ds, g, small', lt) = absurd (too_many room cs ds (same k bytes cs ds h g) le lt)
 one_answer k room name (Some bytes) (Ok cs) (Ok ds) (h, small, le) (g, small', le') = ap Ok (same k bytes cs ds h g)

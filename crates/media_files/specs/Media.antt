@@ -1,10 +1,9 @@
 -- What the chunk files of a script give: the chunks of each, or the first fault. The files are taken in order of first
--- mention; of each its length is tried first, then its grammar, the lengths of its chunks, and the bytes of all media so far.
+-- mention; of each its length is tried first, then its format, the lengths of its chunks, and the bytes of all media so far.
 use Rattle.std.specs.Prelude.{ℕ, ◌+◌, ◌-◌, ◌≡◌, ◌<◌, ◌≤◌, ◌⊎◌, Bool, true, false, nat_le, List, [], ◌∷◌, ◌++◌, length, take, sum_by, Option, Some, None, IfSome, MatchOption, Result, Ok, Err}
 use Rattle.std.specs.List.{list_all, slice_get}
 use Rattle.wc_base.specs.Causes.{Rose, RoseBy}
 use Rattle.wc_chunk.specs.declared.chunk.Chunk.{Chunk}
-use Rattle.chunk_files.specs.Grammar.{IsChunkFile, IsFirstFault}
 use Rattle.script_types.specs.declared.fault.Counted.TheVariants as counted
 use Rattle.script_types.specs.declared.fault.Fault.{Fault}
 use Rattle.script_types.specs.declared.fault.Fault.TheVariants as fault
@@ -13,6 +12,8 @@ use Rattle.chunk_files.specs.declared.fault.Stop.TheVariants as stop
 use Rattle.script_types.specs.declared.script.ScriptData.{ScriptData}
 use Rattle.script_types.specs.Limits.{most_file}
 use Rattle.script_types.specs.Sound.{most_chunk, most_media}
+use Rattle.wc_demux.specs.Media.{IsMediaFile, IsMediaFault, media_chunks}
+use Rattle.wc_demux.specs.declared.media.MediaFile.{MediaFile}
 
 abbrev pub is_small : Chunk → Bool
 is_small c = nat_le (length c.bytes) most_chunk
@@ -24,10 +25,12 @@ are_small chunks = list_all is_small chunks
 abbrev pub media_of : List Chunk → ℕ
 media_of chunks = sum_by (λ c. length c.bytes) chunks
 
--- the bytes are the file of these chunks, within the limit on files
+-- the bytes are a media file of these chunks, within the limit on files
 pub record AreChunks (bytes : List ℕ) (chunks : List Chunk) : Type 0 where
   pub short : length bytes ≤ most_file
-  pub file : IsChunkFile chunks bytes
+  pub medium : MediaFile
+  pub file : IsMediaFile medium bytes
+  pub holds : chunks ≡ media_chunks medium
 
 -- The chunks of one file, or why there are none.
 abbrev pub Answer : Type 0
@@ -42,7 +45,7 @@ abbrev pub FileGives : ℕ → List ℕ → Option (List ℕ) → Answer → Typ
 FileGives room name None (Err (stop.Fault (fault.Unread n))) = n ≡ name
 FileGives room name (Some bytes) (Err (stop.Fault (fault.TooMany counted.File))) = most_file < length bytes
 FileGives room name (Some bytes) (Err (stop.Fault (fault.Chunks n e))) =
-    (n ≡ name) × (length bytes ≤ most_file) × IsFirstFault bytes e
+    (n ≡ name) × (length bytes ≤ most_file) × IsMediaFault bytes e
 FileGives room name (Some bytes) (Err (stop.Fault (fault.TooMany counted.Chunk))) =
     (chunks : List Chunk) × AreChunks bytes chunks × (are_small chunks ≡ false)
 FileGives room name (Some bytes) (Err (stop.Fault (fault.TooMany counted.Media))) =

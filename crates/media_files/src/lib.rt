@@ -5,4 +5,4 @@ mod laws;
 mod read;
 
 pub use laws::{media_are_within, media_have_one_reading};
-pub use read::read_media;
+pub use read::{no_chunks, read_media};

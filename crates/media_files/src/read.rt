@@ -5,11 +5,12 @@ ghost use Rattle.media_files.specs.Media.{are_small, media_of, FailedBy, FileGiv
 ghost use Rattle.media_files.specs.Media as spec;
 ghost use Rattle.script_types.specs.Sound.{most_media};
 
-use chunk_files::{ChunkFault, read_chunks};
+use chunk_files::MediaFault;
 use script_types::{Counted, Fault, Script, Stop, copied, unread};
 use std::alloc::Global;
 use wc_base::{FileFault, Files, List, Text};
 use wc_chunk::Chunk;
+use wc_demux::read_media_file;
 
 // The most bytes of a chunk file.
 const MOST_FILE: u64 = 268_435_456;
@@ -40,8 +41,8 @@ fn room_after(chunks: &[Chunk], room: u64) -> Option<u64>
     Some(left)
 }
 
-// Why there are no chunks, where the bytes of the file of this name are no chunk file.
-fn no_chunks(alloc: Global, name: &str, fault: ChunkFault) -> Stop<Fault>
+/// Why there are no chunks, where the bytes of the file of this name are no media file.
+pub fn no_chunks(alloc: Global, name: &str, fault: MediaFault) -> Stop<Fault>
     ensures { result ≡ Stop.NoMemory ⊎ result ≡ Stop.Fault (Fault.Chunks name.now fault) }
 {
     match copied(alloc, name) {
@@ -63,16 +64,16 @@ fn read_bytes(
     ensures err { IfErr result
         (λ e. e ≢ Stop.NoMemory → FileGives room name.now (Some bytes.now) (Err e)) }
 {
-    let chunks = match read_chunks(alloc, bytes) {
-        Ok(chunks) => chunks,
+    let chunks = match read_media_file(alloc, bytes) {
+        Ok(medium) => medium.into_chunks(),
         Err(Stop::NoMemory) => return Err(Stop::NoMemory),
         Err(Stop::Fault(fault)) => return Err(no_chunks(alloc, name, fault)),
     };
-    if !are_small(&chunks) {
+    if !are_small(chunks.as_slice()) {
         return Err(Stop::Fault(Fault::TooMany(Counted::Chunk)));
     }
-    match room_after(&chunks, room) {
-        Some(left) => Ok((List::of(chunks), left)),
+    match room_after(chunks.as_slice(), room) {
+        Some(left) => Ok((chunks, left)),
         None => Err(Stop::Fault(Fault::TooMany(Counted::Media))),
     }
 }
@@ -105,7 +106,7 @@ fn read_file<F: Files>(
 /// Reads the chunk files that the script mentions, in order of first mention: the chunks of each.
 ///
 /// `Unread` where a file is not there or a read of it failed, with its name. `TooMany` bytes of a `File` where it has more than
-/// 268,435,456, `Chunks` for one that is no chunk file, `TooMany` of a `Chunk` of more than 16,777,216 bytes, and of
+/// 268,435,456, `Chunks` for one that is no media file, `TooMany` of a `Chunk` of more than 16,777,216 bytes, and of
 /// `Media` where the chunks read so far and all inline data have together more than 268,435,456 bytes; the first that
 /// applies, file after file.
 pub fn read_media<F: Files>(

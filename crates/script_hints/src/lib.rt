@@ -22,7 +22,7 @@ use crate::rules::Form;
 use crate::scan::past_blanks;
 use crate::script::Script;
 use crate::warnings::Warner;
-use chunk_files::ChunkFault;
+use chunk_files::{ChunkFault, DemuxFault, MediaFault};
 use script_types::{Fault, Place, Wrong};
 use std::alloc::{AllocError, Global};
 use wc_base::NoMemory;
@@ -137,6 +137,41 @@ fn in_chunks(notes: &mut Notes<'_>, name: &str, fault: ChunkFault) -> Result<(),
     notes.end()
 }
 
+// The first fault of a WAV file or a native FLAC file.
+fn in_sound(notes: &mut Notes<'_>, name: &str, fault: DemuxFault) -> Result<(), AllocError> {
+    notes.say(name)?;
+    match fault {
+        DemuxFault::BadWav { at } => {
+            notes.say(
+                ": a WAV file is RIFF, a size and WAVE, and then parts, of which a fmt stands before the data; at byte ",
+            )?;
+            notes.number(at as usize)?;
+            notes.say(" one is cut, lacks or does not agree with itself")?;
+        }
+        DemuxFault::Unsupported { tag, bits } => {
+            notes.say(": its format has the tag ")?;
+            notes.number(tag as usize)?;
+            notes.say(" and ")?;
+            notes.number(bits as usize)?;
+            notes.say(" bits; 1 with 8, 16, 24 or 32, or 6 or 7 with 8 is wanted")?;
+        }
+        DemuxFault::BadFlac { at } => {
+            notes.say(": a FLAC file is fLaC, its blocks and then frames to its end; at byte ")?;
+            notes.number(at as usize)?;
+            notes.say(" stands no description, or a block that is cut, or no frame of the stream")?;
+        }
+    }
+    notes.end()
+}
+
+// Why a file is no media file.
+fn in_media(notes: &mut Notes<'_>, name: &str, fault: MediaFault) -> Result<(), AllocError> {
+    match fault {
+        MediaFault::Chunks(fault) => in_chunks(notes, name, fault),
+        MediaFault::Sound(fault) => in_sound(notes, name, fault),
+    }
+}
+
 // The chunk that a step takes from a file with too few.
 fn lacking(
     notes: &mut Notes<'_>,
@@ -180,7 +215,7 @@ fn explain(
         Fault::At { place, wrong } => at_place(notes, &script, *place, *wrong),
         Fault::TooMany(what) => counts::too_many(notes, &script, *what),
         Fault::Unread { name: _ } => Ok(()),
-        Fault::Chunks { name, fault } => in_chunks(notes, name.as_str(), *fault),
+        Fault::Chunks { name, fault } => in_media(notes, name.as_str(), *fault),
         Fault::NoIndex { name, place } => { lacking(notes, &script, name.as_str(), *place, held) }
     }
 }

@@ -4,7 +4,7 @@ ghost use Rattle.script_types.specs.declared.steps.Step.TheVariants as step;
 ghost use Rattle.script_types.specs.declared.steps.ChunkSource.TheVariants as source;
 ghost use Rattle.script_tests.specs.MediaRows.{taker, two_names};
 
-use chunk_files::ChunkFault;
+use chunk_files::{ChunkFault, DemuxFault, MediaFault};
 use media_files::read_media;
 use script_types::{CallerItem, ChunkSource, Counted, Fault, Script, ScriptData, Step, Stop};
 use std::alloc::Global;
@@ -103,8 +103,25 @@ fn two_files_are_read(rt: HostRuntime) -> Result<(), Fail> {
     Ok(())
 }
 
-// What is told of the bytes of the file y, which are no chunk file.
-fn chunks_of_y(alloc: Global, fault: ChunkFault) -> Result<Option<Stop<Fault>>, Fail> {
+// The WAV file of two frames of 16 bits.
+const WAV: &[u8] =
+    b"RIFF\x28\x00\x00\x00WAVEfmt \x10\x00\x00\x00\x01\x00\x01\x00\x40\x1f\x00\x00\x80\x3e\x00\x00\x02\x00\x10\x00data\x04\x00\x00\x00\x01\x00\x02\x00";
+
+#[test]
+fn a_wav_file_is_read(rt: HostRuntime) -> Result<(), Fail> {
+    let alloc = rt.alloc();
+    let script = script(alloc, 0)?;
+    let mut files = files(alloc, WAV, Vec::new(alloc))?;
+    let media = read_media(alloc, &script, &mut files)?;
+    assert_eq!(rt; media[1].len(), 1);
+    let chunk = &media[1].as_slice()[0];
+    assert_eq!(rt; (chunk.timestamp, chunk.duration), (0, Some(250)));
+    assert_eq!(rt; chunk.bytes.as_slice(), b"\x01\x00\x02\x00".as_slice());
+    Ok(())
+}
+
+// What is told of the bytes of the file y, which are no media file.
+fn fault_of_y(alloc: Global, fault: MediaFault) -> Result<Option<Stop<Fault>>, Fail> {
     let name = text(alloc, "y")?;
     Ok(Some(Stop::Fault(Fault::Chunks { name, fault })))
 }
@@ -113,16 +130,30 @@ fn chunks_of_y(alloc: Global, fault: ChunkFault) -> Result<Option<Stop<Fault>>, 
 fn each_fault_names_its_file(rt: HostRuntime) -> Result<(), Fail> {
     let alloc = rt.alloc();
     let rows = [
-        (b"WCX1".as_slice(), ChunkFault::BadMark { at: 2 }),
+        (
+            b"WCX1".as_slice(),
+            MediaFault::Chunks(ChunkFault::BadMark { at: 2 }),
+        ),
         (
             b"WCC1\x02".as_slice(),
-            ChunkFault::BadKind { at: 4, found: 2 },
+            MediaFault::Chunks(ChunkFault::BadKind { at: 4, found: 2 }),
         ),
-        (b"WCC1\x00\x00".as_slice(), ChunkFault::Short { at: 5 }),
+        (
+            b"WCC1\x00\x00".as_slice(),
+            MediaFault::Chunks(ChunkFault::Short { at: 5 }),
+        ),
+        (
+            b"RIFF".as_slice(),
+            MediaFault::Sound(DemuxFault::BadWav { at: 8 }),
+        ),
+        (
+            b"fLaC".as_slice(),
+            MediaFault::Sound(DemuxFault::BadFlac { at: 0 }),
+        ),
     ];
     for (bytes, fault) in rows {
         let told = fault_of(alloc, 0, bytes, Vec::new(alloc))?;
-        assert_eq!(rt; told, chunks_of_y(alloc, fault)?);
+        assert_eq!(rt; told, fault_of_y(alloc, fault)?);
     }
     let name = text(alloc, "y")?;
     assert_eq!(rt;

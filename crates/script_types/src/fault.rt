@@ -1,5 +1,5 @@
 // Why a script is not replayed.
-use chunk_files::ChunkFault;
+use chunk_files::MediaFault;
 use std::fmt;
 use wc_base::Text;
 
@@ -67,8 +67,8 @@ pub enum Fault {
     TooMany(Counted),
     /// The file of this name was not read; the files' count of faults rose.
     Unread { name: Text },
-    /// The bytes of the chunk file of this name are no chunk file, with their first fault.
-    Chunks { name: Text, fault: ChunkFault },
+    /// The bytes of the chunk file of this name are no media file, with their first fault.
+    Chunks { name: Text, fault: MediaFault },
     /// The chunk file of this name lacks the chunk that the step at this place takes.
     NoIndex { name: Text, place: Place },
 }
