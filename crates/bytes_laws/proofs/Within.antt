@@ -10,7 +10,8 @@ use Rattle.script_types.specs.declared.{script.ScriptData.ScriptData, script.Ord
 use Rattle.script_types.specs.declared.steps.{ChunkInit.ChunkInit, ChunkSource.ChunkSource}
 use Rattle.script_steps.specs.Within.{Is32Bits, HasSmallNumbers, IsSmallChunk as IsSmallInit, IsSmallSource, IsStepWithin}
 use Rattle.wc_script.specs.Within.{HasSmallMoment, HasSmallSteps, IsScriptWithin, ScriptsAreWithin}
-use Rattle.media_files.specs.Within.{IsSmallChunk, MediaAreWithin}
+use Rattle.media_files.specs.Within.{MediaAreWithin}
+use Rattle.wc_demux.specs.Within.{IsSmallChunk}
 use Rattle.codec_accounts.specs.Owed.{at}
 use Rattle.report_lines.specs.FieldLaws.{FitsOrAbsent}
 use Rattle.trace_text.specs.Follow.{steps_of, chunk_of, chunk_from, chunk_by}

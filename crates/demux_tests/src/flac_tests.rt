@@ -79,3 +79,51 @@ fn cut_files(rt: HostRuntime) -> Result<(), Fail> {
     }
     Ok(())
 }
+
+fn with_byte(at: usize, byte: u8) -> [u8; 74] {
+    let mut file = FRAMES;
+    if at < 74 {
+        file[at] = byte;
+    }
+    file
+}
+
+#[test]
+fn faults_of_one_byte(rt: HostRuntime) -> Result<(), Fail> {
+    for (at, byte, place) in [
+        // Another mark, another first block, another size of it, and a depth of 3.
+        (0, 0x46, 0),
+        (4, 0x81, 0),
+        (7, 0x21, 0),
+        (21, 0x20, 0),
+        // A stream of one channel, of which the first frame is none.
+        (20, 0x40, 42),
+        // The first block is not the last, and the frames are taken for one that is cut.
+        (4, 0x00, 42),
+        // Another sum of the first frame's header, and of the second frame.
+        (48, 0xbe, 42),
+        (72, 0x25, 57),
+    ] {
+        let fault = fault_of(rt.alloc(), &with_byte(at, byte)[..73])?;
+        assert_eq!(rt; fault, Some(DemuxFault::BadFlac { at: place }));
+    }
+    Ok(())
+}
+
+/// The same frames behind a second block of three bytes.
+const BLOCKS: [u8; 80] = [
+    0x66, 0x4c, 0x61, 0x43, 0x00, 0x00, 0x00, 0x22, 0x10, 0x00, 0x10, 0x00, 0x00, 0x00, 0x0f, 0x00,
+    0x00, 0x0f, 0x0a, 0xc4, 0x42, 0xf0, 0x00, 0x00, 0x00, 0x01, 0x3e, 0x84, 0xb4, 0x18, 0x07, 0xdc,
+    0x69, 0x03, 0x07, 0x58, 0x6a, 0x3d, 0xad, 0x1a, 0x2e, 0x0f, 0x84, 0x00, 0x00, 0x03, 0x01, 0x02,
+    0x03, 0xff, 0xf8, 0x69, 0x18, 0x00, 0x00, 0xbf, 0x03, 0x58, 0xfd, 0x03, 0x12, 0x8b, 0xaa, 0x9a,
+    0xff, 0xf8, 0x60, 0xa8, 0x00, 0x01, 0xf4, 0x00, 0x00, 0x01, 0x00, 0x00, 0x01, 0x80, 0x58, 0x24,
+];
+
+#[test]
+fn blocks_behind_the_first_are_passed_over(rt: HostRuntime) -> Result<(), Fail> {
+    let flac = read(rt.alloc(), &BLOCKS)?.ok_or("refused")?;
+    assert_eq!(rt; (flac.frames, flac.chunks.len()), (3, 2));
+    let fault = fault_of(rt.alloc(), &BLOCKS[..48])?;
+    assert_eq!(rt; fault, Some(DemuxFault::BadFlac { at: 42 }));
+    Ok(())
+}

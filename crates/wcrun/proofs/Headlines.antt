@@ -6,7 +6,7 @@ use Rattle.wc_config.specs.declared.codec.CoderId.{CoderId}
 use Rattle.script_types.specs.declared.fault.Fault.{Fault}
 use Rattle.chunk_files.specs.declared.fault.Stop.{Stop}
 use Rattle.wcrun.specs.Refusals.{status_of, line_of, usage_line, memory_line}
-use Rattle.wcrun.specs.Headline.{Reading, Writing, IsReport, IsCut, Comes, IsRefusal, SinkFailed, Headline}
+use Rattle.wcrun.specs.Headline.{Reading, Writing, IsWhole, IsCut, Comes, IsRefusal, SinkFailed, Headline}
 use Rattle.wcrun.specs.{Writing.WritesText, Writing.WritesLine, Stops.MayStop}
 
 -- no fault has status 0
@@ -14,17 +14,17 @@ not_zero : (x : Fault) → status_of x ≢ 0
 not_zero Fault.NotJson = λ e. omega arith
 not_zero _ = λ e. omega arith
 
--- the line for want of memory, with no report before it
+-- the line for want of memory, with nothing before it
 cut_nothing : (r : Reading) (ids : List CoderId) → IsCut r ids memory_line
 cut_nothing r ids = record { part = []; begun = inl refl; whole = refl }
 
--- that line, after a beginning of a report
-cut_after : (r : Reading) (ids : List CoderId) (old : Option (List ℕ)) (text : List ℕ) (mid : Option (List ℕ)) → IsReport r ids text → (a : AppendsPart old text mid) → IsCut r ids (a.part ++ memory_line)
-cut_after r ids old text mid k a = record { part = a.part; begun = inr (record { report = text; rest = a.rest; is_report = k; whole = a.whole }); whole = refl }
+-- that line, after a beginning of what the command writes
+cut_after : (r : Reading) (ids : List CoderId) (old : Option (List ℕ)) (text : List ℕ) (mid : Option (List ℕ)) → IsWhole r ids text → (a : AppendsPart old text mid) → IsCut r ids (a.part ++ memory_line)
+cut_after r ids old text mid k a = record { part = a.part; begun = inr (record { all = text; rest = a.rest; is_whole = k; whole = a.whole }); whole = refl }
 
-pub headline_of_report : (r : Reading) (ids : List CoderId) (w : Writing) (text : List ℕ) → IsReport r ids text → WritesText text w → Headline r ids w
-headline_of_report r ids w text k p = record {
-  written = λ e. record { text = text; report = k; told = p.done e };
+pub headline_of_whole : (r : Reading) (ids : List CoderId) (w : Writing) (text : List ℕ) → IsWhole r ids text → WritesText text w → Headline r ids w
+headline_of_whole r ids w text k p = record {
+  written = λ e. record { text = text; is_whole = k; told = p.done e };
   out_of_memory = λ e. let m = p.memory e in record {
     text = m.1.part ++ memory_line;
     cut = cut_after r ids w.before text m.0 k m.1;
@@ -73,6 +73,6 @@ headline_of_memory r ids w p = record {
   refused = λ n0 n5 n6. absurd (n6 (p.done n5 n6));
 }
 
--- a fault that stops a replay may come
+-- a fault that stops a command may come
 pub stop_comes : (r : Reading) (e : Stop Fault) (x : Fault) → e ≡ Stop.Fault x → MayStop r e → Comes r x
 stop_comes r e x q k = subst (λ s. MayStop r s) q k

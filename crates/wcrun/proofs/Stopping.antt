@@ -7,15 +7,19 @@ use Rattle.chunk_files.specs.declared.fault.Stop.{Stop}
 use Rattle.media_files.specs.Media.{FailedBy, GivesMedia, IsReached, MayFail}
 use Rattle.wc_script.specs.{Faults.IsOfScript, Read.script_of}
 use Rattle.wcrun.specs.Headline.{Reading, reading, Holding, ComesTo, Comes}
-use Rattle.wcrun.specs.Outcome.{Outcome, playable_of, if_spelled, Becomes, IsOutcome}
+use Rattle.wc_chunk.specs.declared.chunk.Chunk.{Chunk}
+use Rattle.trace_text.specs.Missing.{missing_in}
+use Rattle.wcrun.specs.Outcome.{Outcome, Runs, playable_of, if_spelled, if_there, Becomes, IsOutcome}
 use Rattle.wcrun.specs.Stops.{MayStop, MayStopFor}
+use Rattle.wcrun.specs.Words.{command, to_replay}
+use Rattle.wcrun.specs.declared.command.Verb.{Verb}
 use Rattle.wcrun.proofs.Files.{told_more, there_more, rose_since}
 
 -- the script of the named file, where it can be replayed
 abbrev pub Spells : Option Holding → List ℕ → ScriptData → Type 0
 Spells content name s = IfSome content (λ held. IsSomeAnd (held name) (λ bytes. playable_of bytes ≡ Ok s))
 
-comes_to : (content : Option Holding) (name : List ℕ) (s : ScriptData) (outcome : Outcome) (P Q : Type 0) → (P → Q) → Spells content name s → MatchOption content P (λ held. Becomes held (Ok s) outcome) → MatchOption content Q (λ files. IsSomeAnd (files name) (λ bytes. IsOutcome files bytes outcome))
+comes_to : (content : Option Holding) (name : List ℕ) (s : ScriptData) (outcome : Outcome) (P Q : Type 0) → (P → Q) → Spells content name s → MatchOption content P (λ held. Becomes held (Ok s) outcome) → MatchOption content Q (λ files. IsSomeAnd (files name) (λ bytes. IsOutcome (command Verb.Replay name) files bytes outcome))
 comes_to None name s outcome P Q f h g = f g
 comes_to (Some held) name s outcome P Q f h g = there_more _ _ (held name) (λ bytes e. subst (λ p. Becomes held p outcome) (sym e) g) h
 
@@ -29,10 +33,10 @@ failed_as T xb xc _ h = h
 
 -- why there is no replay of a script that can be replayed
 pub stops : (content : Option Holding) (name : List ℕ) (s : ScriptData) (fa fb fc ba bb bc : ℕ) (xa xb xc : List (List ℕ)) (e : Stop Fault) → fa ≤ fb → ba ≤ bb → xb ≡ xa → Spells content name s
-    → MayStopFor content s fb fc bb bc e → FailedBy {T = Unit {0}} xb xc (Err e) → MayStop (reading (Some name) content fa fc ba bc xa xc) e
+    → MayStopFor content s fb fc bb bc e → FailedBy {T = Unit {0}} xb xc (Err e) → MayStop (reading (to_replay name) content fa fc ba bc xa xc) e
 stops content name s fa fb fc ba bb bc xa xb xc Stop.NoMemory le le' same h g f = tt
 stops content name s fa fb fc ba bb bc xa xb xc (Stop.Fault (Fault.Unread n)) le le' same h (m, rose) f =
-    (inr (named_in content name n s h m), (rose_since 1 fa fb fc le rose, f ∙ ap (λ (l : List (List ℕ)). l ++ n ∷ []) same))
+    (inr (refl, named_in content name n s h m), (rose_since 1 fa fb fc le rose, f ∙ ap (λ (l : List (List ℕ)). l ++ n ∷ []) same))
 stops content name s fa fb fc ba bb bc xa xb xc (Stop.Fault (Fault.TooMany Counted.Script)) le le' same h g f = elim g [ ]
 stops content name s fa fb fc ba bb bc xa xb xc (Stop.Fault (Fault.TooMany Counted.File)) le le' same h g f = comes_to content name s _ _ _ (rose_since 268435457 ba bb bc le') h g
 stops content name s fa fb fc ba bb bc xa xb xc (Stop.Fault x) le le' same h g f = comes_to content name s _ (Unit {0}) (Unit {0}) (λ u. u) h g
@@ -52,14 +56,18 @@ media_stops content s fb fc bb bc (Stop.Fault (Fault.TooMany Counted.Chunk)) h =
 media_stops content s fb fc bb bc (Stop.Fault (Fault.TooMany Counted.Media)) h = becomes content s _ (Unit {0}) h
 media_stops content s fb fc bb bc e h = elim h [ ]
 
+-- each chunk that a step takes is there
+pub chunk_files_read : (content : Option Holding) (s : ScriptData) (media : List (List Chunk)) → IfSome content (λ files. GivesMedia files s (Ok media)) → missing_in s media ≡ None → IfSome content (λ files. Becomes files (Ok s) (Ok (Runs (record { script = s; media = media }))))
+chunk_files_read content s media h none = told_more _ _ _ content (λ files g. (Ok media, (g, ap (if_there s media) (sym none)))) h
+
 -- ---- a script that can not be replayed
 
-refused_at : (held : Holding) (e : Stop Fault) (bytes : List ℕ) (b : Option (List ℕ)) → b ≡ Some bytes → playable_of bytes ≡ Err e → IsSomeAnd b (λ bytes. IsOutcome held bytes (Err e))
-refused_at held e bytes b is q = subst (λ o. IsSomeAnd o (λ bytes. IsOutcome held bytes (Err e))) (sym is) (subst (λ p. Becomes held p (Err e)) (sym q) refl)
+refused_at : (held : Holding) (name : List ℕ) (e : Stop Fault) (bytes : List ℕ) (b : Option (List ℕ)) → b ≡ Some bytes → playable_of bytes ≡ Err e → IsSomeAnd b (λ bytes. IsOutcome (command Verb.Replay name) held bytes (Err e))
+refused_at held name e bytes b is q = subst (λ o. IsSomeAnd o (λ bytes. IsOutcome (command Verb.Replay name) held bytes (Err e))) (sym is) (subst (λ p. Becomes held p (Err e)) (sym q) refl)
 
 refused_in : (content : Option Holding) (name bytes : List ℕ) (e : Stop Fault) → IfSome content (λ held. held name ≡ Some bytes) → playable_of bytes ≡ Err e
-    → IfSome content (λ files. IsSomeAnd (files name) (λ bytes. IsOutcome files bytes (Err e)))
-refused_in content name bytes e h q = told_more _ _ _ content (λ held is. refused_at held e bytes (held name) is q) h
+    → IfSome content (λ files. IsSomeAnd (files name) (λ bytes. IsOutcome (command Verb.Replay name) files bytes (Err e)))
+refused_in content name bytes e h q = told_more _ _ _ content (λ held is. refused_at held name e bytes (held name) is q) h
 
 by_script : (r : Reading) (x : Fault) → IsOfScript (Stop.Fault x) → ComesTo r (Err (Stop.Fault x)) → Comes r x
 by_script r (Fault.Unread n) o h = elim o [ ]
@@ -69,10 +77,10 @@ by_script r x o h = h
 
 -- a script that was read can not be replayed
 pub script_stops : (content : Option Holding) (name bytes : List ℕ) (fa fc ba bc : ℕ) (xa xc : List (List ℕ)) (e : Stop Fault) → IfSome content (λ held. held name ≡ Some bytes)
-    → IsOfScript e → (e ≢ Stop.NoMemory → playable_of bytes ≡ Err e) → MayStop (reading (Some name) content fa fc ba bc xa xc) e
+    → IsOfScript e → (e ≢ Stop.NoMemory → playable_of bytes ≡ Err e) → MayStop (reading (to_replay name) content fa fc ba bc xa xc) e
 script_stops content name bytes fa fc ba bc xa xc Stop.NoMemory h o k = tt
 script_stops content name bytes fa fc ba bc xa xc (Stop.Fault x) h o k =
-    by_script (reading (Some name) content fa fc ba bc xa xc) x o (refused_in content name bytes (Stop.Fault x) h (k (λ is. absurd cc)))
+    by_script (reading (to_replay name) content fa fc ba bc xa xc) x o (refused_in content name bytes (Stop.Fault x) h (k (λ is. absurd cc)))
 
 long : (bytes : List ℕ) → 16777216 < length bytes → playable_of bytes ≡ Err (Stop.Fault (Fault.TooMany Counted.Script))
 long bytes lt =
@@ -80,7 +88,7 @@ long bytes lt =
     ap (λ (b : Bool). if b then Err (Stop.Fault (Fault.TooMany Counted.Script)) else if_spelled (script_of bytes)) many
 
 -- a script file that is too long
-pub script_is_long : (content : Option Holding) (name : List ℕ) (b c : ℕ) → MatchOption content (RoseBy 16777217 b c) (λ files. IsSomeAnd (files name) (λ bytes. 16777216 < length bytes)) → MatchOption content (RoseBy 16777217 b c) (λ files. IsSomeAnd (files name) (λ bytes. IsOutcome files bytes (Err (Stop.Fault (Fault.TooMany Counted.Script)))))
+pub script_is_long : (content : Option Holding) (name : List ℕ) (b c : ℕ) → MatchOption content (RoseBy 16777217 b c) (λ files. IsSomeAnd (files name) (λ bytes. 16777216 < length bytes)) → MatchOption content (RoseBy 16777217 b c) (λ files. IsSomeAnd (files name) (λ bytes. IsOutcome (command Verb.Replay name) files bytes (Err (Stop.Fault (Fault.TooMany Counted.Script)))))
 script_is_long content name b c h =
     let e : Outcome = Err (Stop.Fault (Fault.TooMany Counted.Script)) in
     told_more _ _ _ content (λ held. there_more _ _ (held name) (λ bytes lt. subst (λ p. Becomes held p e) (sym (long bytes lt)) refl)) h

@@ -1,6 +1,6 @@
--- What `replay FILE` writes, and with which status it ends.
+-- What `replay FILE` and `probe FILE` write, and with which status they end.
 --
--- Status 0 is a whole report, 6 is want of memory, 5 is a failed sink, and 2, 3, 4 and 7 are refusals. What is said of the
+-- Status 0 is a whole report, or the line of a media file, 6 is want of memory, 5 is a failed sink, and 2, 3, 4 and 7 are refusals. What is said of the
 -- bytes of files and of the sink holds where they tell them.
 use Rattle.std.specs.Prelude.{ℕ, ◌≡◌, ◌≢◌, ◌⊎◌, List, [], ◌∷◌, ◌++◌, Option, Some, None, IfSome, IsSomeAnd, MatchOption, Result, Ok, Err}
 use Rattle.wc_base.specs.Causes.{Rose, RoseBy}
@@ -16,12 +16,16 @@ use Rattle.trace_text.specs.Fits.{IsLegalRun, Fits}
 use Rattle.trace_text.specs.Report.{report_of}
 use Rattle.media_files.specs.Media.{IsReached}
 use Rattle.wcrun.specs.Refusals.{status_of, line_of, usage_line, memory_line}
-use Rattle.wcrun.specs.Outcome.{Ready, Outcome, playable_of, IsOutcome}
+use Rattle.wcrun.specs.Outcome.{Ready, Ending, Runs, Outcome, playable_of, IsOutcome}
+use Rattle.wcrun.specs.Probe.{IsMediaLine}
+use Rattle.wcrun.specs.Words.{Command}
+use Rattle.wcrun.specs.declared.command.Verb.{Verb}
+use Rattle.wcrun.specs.declared.command.Verb.TheVariants as verb
 
--- What a call was told to do, and what it read: the file that the words name, what the files hold, where they tell it,
+-- What a call was told to do, and what it read: the command of the words, with its file; what the files hold, where they tell it,
 -- their counts of faults and of bytes, and the names whose read failed, before the call and after it.
 pub record Reading : Type 0 where
-  pub command : Option (List ℕ)
+  pub command : Option Command
   pub content : Option (List ℕ → Option (List ℕ))
   pub faults_before : ℕ
   pub faults_after : ℕ
@@ -39,7 +43,7 @@ pub record Writing : Type 0 where
   pub faults_after : ℕ
   pub answer : ℕ
 
-abbrev pub reading : Option (List ℕ) → Option (List ℕ → Option (List ℕ)) → ℕ → ℕ → ℕ → ℕ → List (List ℕ) → List (List ℕ) → Reading
+abbrev pub reading : Option Command → Option (List ℕ → Option (List ℕ)) → ℕ → ℕ → ℕ → ℕ → List (List ℕ) → List (List ℕ) → Reading
 reading command content faults_before faults_after bytes_before bytes_after failed_before failed_after = record {
   command = command;
   content = content;
@@ -59,48 +63,72 @@ writing before after faults_before faults_after answer =
 abbrev pub Holding : Type 0
 Holding = List ℕ → Option (List ℕ)
 
--- The words name a file, which is there, and P holds of what the files hold and of its bytes.
-abbrev pub OfFile : Reading → (Holding → List ℕ → Type 0) → Type 0
-OfFile r P = IsSomeAnd r.command (λ name. IfSome r.content (λ files. IsSomeAnd (files name) (P files)))
+-- The words are a command, whose file is there, and P holds of the command, what the files hold, and this file's bytes.
+abbrev pub OfFile : Reading → (Command → Holding → List ℕ → Type 0) → Type 0
+OfFile r P = IsSomeAnd r.command (λ c. IfSome r.content (λ files. IsSomeAnd (files c.file) (P c files)))
 
--- P holds of what the files hold and of the bytes of the file that the words name, if it is there.
-abbrev pub IfFile : Reading → (Holding → List ℕ → Type 0) → Type 0
-IfFile r P = IfSome r.command (λ name. IfSome r.content (λ files. IfSome (files name) (P files)))
+-- The same, if there are such a command and its file.
+abbrev pub IfFile : Reading → (Command → Holding → List ℕ → Type 0) → Type 0
+IfFile r P = IfSome r.command (λ c. IfSome r.content (λ files. IfSome (files c.file) (P c files)))
 
 -- The file's bytes come to this.
 abbrev pub ComesTo : Reading → Outcome → Type 0
-ComesTo r outcome = OfFile r (λ files bytes. IsOutcome files bytes outcome)
+ComesTo r outcome = OfFile r (λ c files bytes. IsOutcome c files bytes outcome)
+
+-- what the words ask for, and of which file
+abbrev pub verb_in : Option Command → Option Verb
+verb_in None = None
+verb_in (Some c) = Some c.verb
+
+abbrev pub file_in : Option Command → Option (List ℕ)
+file_in None = None
+file_in (Some c) = Some c.file
 
 -- A run that is legal and fits the script that the file's bytes spell, with the chunks of its chunk files; `coders` has the
 -- ids of the coders that were handed in.
 pub record IsRunOf (r : Reading) (coders : List CoderId) (ready : Ready) (run : Run) : Type 0 where
-  pub spelled : ComesTo r (Ok ready)
+  pub spelled : ComesTo r (Ok (Runs ready))
   pub legal : IsLegalRun ready.script run
   pub fits : Fits ready.script ready.media coders run
 
--- The text is the report of such a run.
+-- The text is the report of such a run, for which the words ask.
 pub record IsReport (r : Reading) (coders : List CoderId) (text : List ℕ) : Type 0 where
+  pub asked : verb_in r.command ≡ Some verb.Replay
   pub ready : Ready
   pub run : Run
   pub ran : IsRunOf r coders ready run
   pub whole : text ≡ report_of ready.script run
 
--- The text is a beginning of such a report.
-pub record IsBegun (r : Reading) (coders : List CoderId) (text : List ℕ) : Type 0 where
-  pub report : List ℕ
-  pub rest : List ℕ
-  pub is_report : IsReport r coders report
-  pub whole : text ++ rest ≡ report
+-- The text is the line of the media file for which the words ask.
+pub record IsProbe (r : Reading) (text : List ℕ) : Type 0 where
+  pub asked : verb_in r.command ≡ Some verb.Probe
+  pub bytes : List ℕ
+  pub held : OfFile r (λ c files content. content ≡ bytes)
+  pub line : IsMediaLine bytes text
 
--- The text is nothing, or a beginning of a report, and then the line for want of memory.
+-- The text is what the command writes.
+abbrev pub IsWhole : Reading → List CoderId → List ℕ → Type 0
+IsWhole r coders text = IsReport r coders text ⊎ IsProbe r text
+
+-- The text is a beginning of what the command writes.
+pub record IsBegun (r : Reading) (coders : List CoderId) (text : List ℕ) : Type 0 where
+  pub all : List ℕ
+  pub rest : List ℕ
+  pub is_whole : IsWhole r coders all
+  pub whole : text ++ rest ≡ all
+
+-- The text is nothing, or a beginning of what the command writes, and then the line for want of memory.
 pub record IsCut (r : Reading) (coders : List CoderId) (text : List ℕ) : Type 0 where
   pub part : List ℕ
   pub begun : (part ≡ []) ⊎ IsBegun r coders part
   pub whole : text ≡ part ++ memory_line
 
--- The name is that of the script file, or of a chunk file that its script mentions, before which each gave its chunks.
+-- The name is that of the command's file, or of a chunk file that the script in it mentions, before which each gave its
+-- chunks.
 abbrev pub IsNamed : Reading → List ℕ → Type 0
-IsNamed r name = (r.command ≡ Some name) ⊎ OfFile r (λ files bytes. (s : ScriptData) × (playable_of bytes ≡ Ok s) × IsReached r.content s name)
+IsNamed r name =
+    (file_in r.command ≡ Some name)
+    ⊎ ((verb_in r.command ≡ Some verb.Replay) × OfFile r (λ c files bytes. (s : ScriptData) × (playable_of bytes ≡ Ok s) × IsReached r.content s name))
 
 -- In this call a read of the file of this name failed, and no other read.
 abbrev pub HasFailed : Reading → List ℕ → Type 0
@@ -111,11 +139,11 @@ HasFailed r name = Rose r.faults_before r.faults_after × (r.failed_after ≡ r.
 abbrev pub Comes : Reading → Fault → Type 0
 Comes r (fault.Unread name) = IsNamed r name × HasFailed r name
 Comes r (fault.TooMany counted.Script) =
-    IsSomeAnd r.command (λ name. MatchOption r.content (RoseBy 16777217 r.bytes_before r.bytes_after) (λ files.
-    IsSomeAnd (files name) (λ bytes. IsOutcome files bytes (Err (stop.Fault (fault.TooMany counted.Script))))))
+    IsSomeAnd r.command (λ c. MatchOption r.content (RoseBy 16777217 r.bytes_before r.bytes_after) (λ files.
+    IsSomeAnd (files c.file) (λ bytes. IsOutcome c files bytes (Err (stop.Fault (fault.TooMany counted.Script))))))
 Comes r (fault.TooMany counted.File) =
-    IsSomeAnd r.command (λ name. MatchOption r.content (RoseBy 268435457 r.bytes_before r.bytes_after) (λ files.
-    IsSomeAnd (files name) (λ bytes. IsOutcome files bytes (Err (stop.Fault (fault.TooMany counted.File))))))
+    IsSomeAnd r.command (λ c. MatchOption r.content (RoseBy 268435457 r.bytes_before r.bytes_after) (λ files.
+    IsSomeAnd (files c.file) (λ bytes. IsOutcome c files bytes (Err (stop.Fault (fault.TooMany counted.File))))))
 Comes r x = ComesTo r (Err (stop.Fault x))
 
 -- The text is the line of usage, which comes where the words are no command.
@@ -134,14 +162,14 @@ pub record TellsFault (r : Reading) (status : ℕ) (text : List ℕ) : Type 0 wh
 abbrev pub IsRefusal : Reading → ℕ → List ℕ → Type 0
 IsRefusal r status text = IsUsage r status text ⊎ TellsFault r status text
 
--- The four parts. With status 0 the sink's bytes are the earlier ones, followed by the report of a run that is legal and
--- fits the script.
+-- The four parts. With status 0 the sink's bytes are the earlier ones, followed by what the command writes: the report of a
+-- run that is legal and fits the script, or the line of the media file.
 pub record Written (r : Reading) (coders : List CoderId) (w : Writing) : Type 0 where
   pub text : List ℕ
-  pub report : IsReport r coders text
+  pub is_whole : IsWhole r coders text
   pub told : w.after ≡ appended w.before text
 
--- With status 6 nothing or a beginning of such a report was added, and then the line `out of memory`.
+-- With status 6 nothing or a beginning of that was added, and then the line `out of memory`.
 pub record OutOfMemory (r : Reading) (coders : List CoderId) (w : Writing) : Type 0 where
   pub text : List ℕ
   pub cut : IsCut r coders text
@@ -151,7 +179,7 @@ pub record OutOfMemory (r : Reading) (coders : List CoderId) (w : Writing) : Typ
 pub record SinkFailed (r : Reading) (coders : List CoderId) (w : Writing) : Type 0 where
   pub rose : Rose w.faults_before w.faults_after
   pub text : List ℕ
-  pub allowed : IsReport r coders text ⊎ (IsCut r coders text ⊎ ((status : ℕ) × IsRefusal r status text))
+  pub allowed : IsWhole r coders text ⊎ (IsCut r coders text ⊎ ((status : ℕ) × IsRefusal r status text))
   pub part : AppendsPart w.before text w.after
 
 -- With every other status the line of a refusal was added, which comes only where its cause is.
@@ -168,21 +196,21 @@ pub record Headline (r : Reading) (coders : List CoderId) (w : Writing) : Type 0
 
 -- the status for what a file's bytes come to, where nothing fails
 abbrev pub status_for : Outcome → ℕ
-status_for (Ok ready) = 0
+status_for (Ok ending) = 0
 status_for (Err (stop.Fault x)) = status_of x
 status_for (Err stop.NoMemory) = 6
 
 -- Where no read, no write and no memory fails, the words and what the files hold alone give the status: so 2 comes exactly
 -- where the words are no command, 7 exactly where a count is above its limit, and 3 exactly where the bytes spell no script
--- that has an order, a chunk file is none, or a chunk file lacks a chunk that is taken. Whatever the files hold, the file's
--- bytes come to something.
+-- that has an order, a chunk file or the file of `probe` is no media file, or a chunk file lacks a chunk that is taken.
+-- Whatever the files hold, the file's bytes come to something.
 pub record Decides (r : Reading) (w : Writing) : Type 0 where
   pub words : r.command ≡ None → w.answer ≢ 5 → w.answer ≢ 6 → w.answer ≡ 2
-  pub file : IfFile r (λ files bytes. (outcome : Outcome) → IsOutcome files bytes outcome
+  pub file : IfFile r (λ c files bytes. (outcome : Outcome) → IsOutcome c files bytes outcome
       → w.answer ≢ 4 → w.answer ≢ 5 → w.answer ≢ 6 → w.answer ≡ status_for outcome)
-  pub some : IfFile r (λ files bytes. (outcome : Outcome) × IsOutcome files bytes outcome)
+  pub some : IfFile r (λ c files bytes. (outcome : Outcome) × IsOutcome c files bytes outcome)
 
--- Where the file's bytes come to a script that can be replayed, and no count of faults rose, the status is 0 or want of
--- memory.
+-- Where the file's bytes come to a script that can be replayed or to a media file's line, and no count of faults rose, the
+-- status is 0 or want of memory.
 abbrev pub IsComplete : Reading → Writing → Type 0
-IsComplete r w = IfFile r (λ files bytes. (ready : Ready) → IsOutcome files bytes (Ok ready) → ¬ Rose r.faults_before r.faults_after → ¬ Rose w.faults_before w.faults_after → w.answer ≢ 6 → w.answer ≡ 0)
+IsComplete r w = IfFile r (λ c files bytes. (ending : Ending) → IsOutcome c files bytes (Ok ending) → ¬ Rose r.faults_before r.faults_after → ¬ Rose w.faults_before w.faults_after → w.answer ≢ 6 → w.answer ≡ 0)

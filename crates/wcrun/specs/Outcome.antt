@@ -1,7 +1,10 @@
--- What the bytes of a script file come to, where the files hold the rest: a script that is replayed and the chunks of its
--- chunk files, or why there is no replay. The first cause decides: the file's length, the faults of the script in the order
--- of the walk, an order that is absent, the chunk files in order of first mention, and the first chunk that its file lacks.
-use Rattle.std.specs.Prelude.{ℕ, ◌≡◌, nat_lt, if◌then◌else◌, List, [], length, Option, Some, None, unwrap_or, Result, Ok, Err}
+-- What the bytes of the file of a command come to, where the files hold the rest.
+--
+-- Those of a script file come to a script that is replayed and the chunks of its chunk files, or to why there is no replay.
+-- The first cause decides: the file's length, the faults of the script in the order of the walk, an order that is absent, the
+-- chunk files in order of first mention, and the first chunk that its file lacks. Those of a media file come to the line that
+-- tells of it, or to why there is none: the file's length first, and then the first fault of its format.
+use Rattle.std.specs.Prelude.{ℕ, ◌≡◌, ◌≤◌, ◌<◌, nat_lt, if◌then◌else◌, List, [], length, Option, Some, None, unwrap_or, Result, Ok, Err}
 use Rattle.std.specs.List.{slice_get}
 use Rattle.wc_chunk.specs.declared.chunk.Chunk.{Chunk}
 use Rattle.script_types.specs.declared.fault.Counted.TheVariants as counted
@@ -14,9 +17,15 @@ use Rattle.chunk_files.specs.declared.fault.Stop.TheVariants as stop
 use Rattle.script_types.specs.declared.fault.Wrong.TheVariants as wrong
 use Rattle.script_types.specs.declared.script.OrderItem.{OrderItem}
 use Rattle.script_types.specs.declared.script.ScriptData.{ScriptData}
+use Rattle.script_types.specs.Limits.{most_file}
 use Rattle.media_files.specs.Media.{Answers, GivesMedia}
+use Rattle.wc_demux.specs.Media.{IsMediaFault}
 use Rattle.wc_script.specs.Read.{script_of}
 use Rattle.trace_text.specs.Missing.{missing_in}
+use Rattle.wcrun.specs.Probe.{IsMediaLine}
+use Rattle.wcrun.specs.Words.{Command}
+use Rattle.wcrun.specs.declared.command.Verb.{Verb}
+use Rattle.wcrun.specs.declared.command.Verb.TheVariants as verb
 
 -- a script that can be replayed, or why there is none
 abbrev pub Playable : Type 0
@@ -45,13 +54,18 @@ pub record Ready : Type 0 where
   pub script : ScriptData
   pub media : List (List Chunk)
 
--- what a script file comes to: a script that is replayed and its chunks, or why there is no replay
+-- what is written in the end: the report of a script's run, or the line of a media file
+pub data Ending : Type 0 where
+  Runs : Ready → Ending
+  Tells : List ℕ → Ending
+
+-- what a file comes to, or why it comes to nothing
 abbrev pub Outcome : Type 0
-Outcome = Result Ready (Stop Fault)
+Outcome = Result Ending (Stop Fault)
 
 -- each chunk that a step takes has to be there
 abbrev pub if_there : ScriptData → List (List Chunk) → Option (ℕ × Place) → Outcome
-if_there s media None = Ok (record { script = s; media = media })
+if_there s media None = Ok (Runs (record { script = s; media = media }))
 if_there s media (Some lack) = Err (stop.Fault (fault.NoIndex (name_of s lack.0) lack.1))
 
 abbrev pub ready_of : ScriptData → Answers → Outcome
@@ -63,6 +77,17 @@ abbrev pub Becomes : (List ℕ → Option (List ℕ)) → Playable → Outcome �
 Becomes files (Ok s) outcome = (media : Answers) × GivesMedia files s media × (outcome ≡ ready_of s media)
 Becomes files (Err e) outcome = outcome ≡ Err e
 
--- what the bytes of a script file come to
-abbrev pub IsOutcome : (List ℕ → Option (List ℕ)) → List ℕ → Outcome → Type 0
-IsOutcome files bytes outcome = Becomes files (playable_of bytes) outcome
+-- what the bytes of a media file of this name come to
+abbrev pub IsProbed : List ℕ → List ℕ → Outcome → Type 0
+IsProbed name bytes (Ok (Tells text)) = IsMediaLine bytes text
+IsProbed name bytes (Err (stop.Fault (fault.TooMany counted.File))) = most_file < length bytes
+IsProbed name bytes (Err (stop.Fault (fault.Chunks n e))) = (n ≡ name) × (length bytes ≤ most_file) × IsMediaFault bytes e
+IsProbed _ _ _ = ⊥
+
+abbrev pub ComesBy : Verb → List ℕ → (List ℕ → Option (List ℕ)) → List ℕ → Outcome → Type 0
+ComesBy verb.Replay name files bytes outcome = Becomes files (playable_of bytes) outcome
+ComesBy verb.Probe name files bytes outcome = IsProbed name bytes outcome
+
+-- what the bytes of a command's file come to
+abbrev pub IsOutcome : Command → (List ℕ → Option (List ℕ)) → List ℕ → Outcome → Type 0
+IsOutcome c files bytes outcome = ComesBy c.verb c.file files bytes outcome

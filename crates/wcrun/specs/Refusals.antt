@@ -2,6 +2,10 @@
 use Rattle.std.specs.Prelude.{ℕ, List, codes, decimal}
 use Rattle.chunk_files.specs.declared.fault.ChunkFault.{ChunkFault}
 use Rattle.chunk_files.specs.declared.fault.ChunkFault.TheVariants as chunks
+use Rattle.chunk_files.specs.declared.fault.DemuxFault.{DemuxFault}
+use Rattle.chunk_files.specs.declared.fault.DemuxFault.TheVariants as sound
+use Rattle.chunk_files.specs.declared.fault.MediaFault.{MediaFault}
+use Rattle.chunk_files.specs.declared.fault.MediaFault.TheVariants as media
 use Rattle.script_types.specs.declared.fault.Counted.{Counted}
 use Rattle.script_types.specs.declared.fault.Counted.TheVariants as counted
 use Rattle.script_types.specs.declared.fault.Fault.{Fault}
@@ -38,10 +42,21 @@ wrong_text wrong.Twice = codes "twice"
 wrong_text wrong.UnknownName = codes "unknown name"
 
 -- the first fault of a chunk file
-abbrev pub fault_text : ChunkFault → List ℕ
-fault_text (chunks.BadMark at) = codes "bad mark at " <> decimal at
-fault_text (chunks.BadKind at found) = codes "bad kind at " <> decimal at
-fault_text (chunks.Short at) = codes "short at " <> decimal at
+abbrev pub chunk_fault_text : ChunkFault → List ℕ
+chunk_fault_text (chunks.BadMark at) = codes "bad mark at " <> decimal at
+chunk_fault_text (chunks.BadKind at found) = codes "bad kind at " <> decimal at
+chunk_fault_text (chunks.Short at) = codes "short at " <> decimal at
+
+-- the first fault of a WAV file or a native FLAC file
+abbrev pub sound_fault_text : DemuxFault → List ℕ
+sound_fault_text (sound.BadWav at) = codes "bad wav at " <> decimal at
+sound_fault_text (sound.Unsupported tag bits) = codes "wav tag " <> decimal tag <> codes " bits " <> decimal bits
+sound_fault_text (sound.BadFlac at) = codes "bad flac at " <> decimal at
+
+-- the first fault of a media file
+abbrev pub fault_text : MediaFault → List ℕ
+fault_text (media.Chunks e) = chunk_fault_text e
+fault_text (media.Sound e) = sound_fault_text e
 
 -- the place of a step whose chunk its file lacks
 abbrev pub lack_text : Place → List ℕ
@@ -57,7 +72,7 @@ line_of (fault.NoIndex name place) = codes "script: chunks " <> name <> codes " 
 
 -- the line where the words are no command, whose status is 2
 abbrev pub usage_line : List ℕ
-usage_line = codes "usage: wcrun replay FILE | run FILE --workers N | load START N | check SCRIPT REPORT\n"
+usage_line = codes "usage: wcrun replay FILE | run FILE --workers N | load START N | check SCRIPT REPORT | probe FILE\n"
 
 -- the line for want of memory, whose status is 6
 abbrev pub memory_line : List ℕ

@@ -1,5 +1,5 @@
--- Why there is no run of a script, and when that may be.
-use Rattle.std.specs.Prelude.{ℕ, Option, IfSome, MatchOption, Ok, Err}
+-- Why there is no run of a script, or no line of a media file, and when that may be.
+use Rattle.std.specs.Prelude.{ℕ, ◌≡◌, List, Option, IfSome, MatchOption, Ok, Err}
 use Rattle.wc_base.specs.Causes.{Rose, RoseBy}
 use Rattle.script_types.specs.declared.fault.Counted.TheVariants as counted
 use Rattle.script_types.specs.declared.fault.Fault.{Fault}
@@ -8,6 +8,7 @@ use Rattle.chunk_files.specs.declared.fault.Stop.{Stop}
 use Rattle.chunk_files.specs.declared.fault.Stop.TheVariants as stop
 use Rattle.script_types.specs.declared.script.ScriptData.{ScriptData}
 use Rattle.media_files.specs.Media.{IsReached}
+use Rattle.wc_demux.specs.Media.{IsMediaFault}
 use Rattle.wcrun.specs.Headline.{Reading, Comes, Holding}
 use Rattle.wcrun.specs.Outcome.{Becomes}
 
@@ -27,3 +28,9 @@ MayStopFor content s faults_before faults_after bytes_before bytes_after (stop.F
 MayStopFor content s faults_before faults_after bytes_before bytes_after stop.NoMemory = Unit {0}
 MayStopFor content s faults_before faults_after bytes_before bytes_after e =
     IfSome content (λ files. Becomes files (Ok s) (Err e))
+
+-- Why there is no line of a media file of this name with these bytes, which are no more than a file may have.
+abbrev pub MayStopProbe : List ℕ → List ℕ → Stop Fault → Type 0
+MayStopProbe name bytes (stop.Fault (fault.Chunks n e)) = (n ≡ name) × IsMediaFault bytes e
+MayStopProbe name bytes stop.NoMemory = Unit {0}
+MayStopProbe _ _ _ = ⊥

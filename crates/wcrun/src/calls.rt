@@ -1,18 +1,20 @@
 // The top call.
-ghost use Rattle.std.specs.Prelude.{◌≡◌, ◌⊎◌, true, map, IfOk, IfErr, Some};
+ghost use Rattle.std.specs.Prelude.{◌≡◌, ◌⊎◌, true, map, IfOk, IfErr, List};
 ghost use Rattle.trace_text.specs.Report.{report_of};
-ghost use Rattle.wcrun.specs.Words.{words_of, command_of};
+ghost use Rattle.wc_config.specs.declared.codec.CoderId.{CoderId};
+ghost use Rattle.wcrun.specs.Words.{words_of, command_of, to_probe, to_replay};
 ghost use Rattle.wcrun.specs.Refusals.{status_of, line_of, usage_line, memory_line};
 ghost use Rattle.wcrun.specs.Headline.{reading, writing, IsRunOf, Headline, Decides, IsComplete};
 ghost use Rattle.wcrun.specs.Stops.{MayStop};
 ghost use Rattle.wcrun.specs.Writing.{WritesText, WritesLine};
 
 use crate::Refusal;
-use crate::command::file_to_replay;
+use crate::command::{Verb, command_of};
+use crate::laws::files_have_one_outcome;
 use crate::prepare::prepare;
 use crate::prepared::Replayed;
+use crate::probe::probe;
 use coder_api::Coder;
-use media_files::media_have_one_reading;
 use script_types::{Fault, Script, Stop};
 use std::alloc::Global;
 use trace_text::{Run, WriteFault, write_report};
@@ -26,11 +28,11 @@ fn replayed<F: Files, C: Coder>(
     files: &mut F,
     coders: Vec<C>,
 ) -> Result<Replayed, Stop<Fault>>
-    ensures ok { IfOk result (λ d. IsRunOf (reading (Some name.now) (F.content files.old) (F.faults files.old)
+    ensures ok { IfOk result (λ d. IsRunOf (reading (to_replay name.now) (F.content files.old) (F.faults files.old)
         (F.faults files.new) (F.bytes_read files.old) (F.bytes_read files.new)
         (F.failed_names files.old) (F.failed_names files.new)) (map C.coder coders.items)
         (record { script = d.prepared.script; media = d.prepared.media.items }) d.run) }
-    ensures stop { IfErr result (λ e. MayStop (reading (Some name.now) (F.content files.old) (F.faults files.old)
+    ensures stop { IfErr result (λ e. MayStop (reading (to_replay name.now) (F.content files.old) (F.faults files.old)
         (F.faults files.new) (F.bytes_read files.old) (F.bytes_read files.new)
         (F.failed_names files.old) (F.failed_names files.new)) e) }
 {
@@ -46,7 +48,7 @@ fn usage<S: Sink>(sink: &mut S) -> u8
         (S.faults sink.new) result) }
 {
     let line =
-        b"usage: wcrun replay FILE | run FILE --workers N | load START N | check SCRIPT REPORT\n";
+        b"usage: wcrun replay FILE | run FILE --workers N | load START N | check SCRIPT REPORT | probe FILE\n";
     match sink.write_all(line) {
         Ok(()) => 2,
         Err(_) => 5,
@@ -105,25 +107,64 @@ fn replay_named<F: Files, S: Sink, C: Coder>(
     coders: Vec<C>,
 ) -> u8
     ensures headline { Headline
-        (reading (Some name.now) (F.content files.old) (F.faults files.old) (F.faults files.new)
+        (reading (to_replay name.now) (F.content files.old) (F.faults files.old) (F.faults files.new)
         (F.bytes_read files.old) (F.bytes_read files.new)
         (F.failed_names files.old) (F.failed_names files.new)) (map C.coder coders.items)
         (writing (S.told sink.old) (S.told sink.new) (S.faults sink.old) (S.faults sink.new) result) }
     ensures decided { Decides
-        (reading (Some name.now) (F.content files.old) (F.faults files.old) (F.faults files.new)
+        (reading (to_replay name.now) (F.content files.old) (F.faults files.old) (F.faults files.new)
         (F.bytes_read files.old) (F.bytes_read files.new)
         (F.failed_names files.old) (F.failed_names files.new))
         (writing (S.told sink.old) (S.told sink.new) (S.faults sink.old) (S.faults sink.new) result) }
     ensures complete { IsComplete
-        (reading (Some name.now) (F.content files.old) (F.faults files.old) (F.faults files.new)
+        (reading (to_replay name.now) (F.content files.old) (F.faults files.old) (F.faults files.new)
         (F.bytes_read files.old) (F.bytes_read files.new)
         (F.failed_names files.old) (F.failed_names files.new))
         (writing (S.told sink.old) (S.told sink.new) (S.faults sink.old) (S.faults sink.new) result) }
 {
     // The law by which what the files hold decides the status.
-    media_have_one_reading();
+    files_have_one_outcome();
     match replayed(alloc, name, files, coders) {
         Ok(done) => report(alloc, &done.prepared.script, &done.run, sink),
+        Err(Stop::Fault(fault)) => refuse(alloc, fault, sink),
+        Err(Stop::NoMemory) => want_memory(sink),
+    }
+}
+
+// Ends with the line that tells of a media file.
+#[tactic(auto, using(crate::proofs::Parts::nothing_yet))]
+fn tell<S: Sink>(text: &str, sink: &mut S) -> u8
+    ensures { WritesText text.now
+        (writing (S.told sink.old) (S.told sink.new) (S.faults sink.old) (S.faults sink.new) result) }
+{
+    match sink.write_all(text.as_bytes()) {
+        Ok(()) => 0,
+        Err(_) => 5,
+    }
+}
+
+// Ends with the line of the media file of this name, or with the line of why there is none.
+fn probe_named<F: Files, S: Sink>(alloc: Global, name: &str, files: &mut F, sink: &mut S) -> u8
+    ensures headline { (ids : List CoderId) → Headline
+        (reading (to_probe name.now) (F.content files.old) (F.faults files.old) (F.faults files.new)
+        (F.bytes_read files.old) (F.bytes_read files.new)
+        (F.failed_names files.old) (F.failed_names files.new)) ids
+        (writing (S.told sink.old) (S.told sink.new) (S.faults sink.old) (S.faults sink.new) result) }
+    ensures decided { Decides
+        (reading (to_probe name.now) (F.content files.old) (F.faults files.old) (F.faults files.new)
+        (F.bytes_read files.old) (F.bytes_read files.new)
+        (F.failed_names files.old) (F.failed_names files.new))
+        (writing (S.told sink.old) (S.told sink.new) (S.faults sink.old) (S.faults sink.new) result) }
+    ensures complete { IsComplete
+        (reading (to_probe name.now) (F.content files.old) (F.faults files.old) (F.faults files.new)
+        (F.bytes_read files.old) (F.bytes_read files.new)
+        (F.failed_names files.old) (F.failed_names files.new))
+        (writing (S.told sink.old) (S.told sink.new) (S.faults sink.old) (S.faults sink.new) result) }
+{
+    // The law by which what the file holds decides the status.
+    files_have_one_outcome();
+    match probe(alloc, name, files) {
+        Ok(line) => tell(line.as_str(), sink),
         Err(Stop::Fault(fault)) => refuse(alloc, fault, sink),
         Err(Stop::NoMemory) => want_memory(sink),
     }
@@ -132,8 +173,9 @@ fn replay_named<F: Files, S: Sink, C: Coder>(
 /// Carries out the command of these words, and gives the status with which the program ends.
 ///
 /// `words` are those of the command line, without the program's name. `replay FILE` reads the script in FILE, replays it
-/// with these coders, and writes the report of the run: status 0. Any other words are refused with the line of usage: 2.
-/// A script file that is no JSON or has a fault, a script with no order, a chunk file that is none or lacks a chunk that is
+/// with these coders, and writes the report of the run: status 0. `probe FILE` reads the media file FILE, and writes the line
+/// that tells what it holds: status 0. Any other words are refused with the line of usage: 2.
+/// A script file that is no JSON or has a fault, a script with no order, a media file that is none or lacks a chunk that is
 /// taken, give 3; a file that is not read 4; a count above its limit 7; each with one line that names the place. Want of
 /// memory gives 6 and the line `out of memory`, also after a part of the report. A sink that fails gives 5, with no further
 /// line.
@@ -160,8 +202,9 @@ pub fn top<F: Files, S: Sink, C: Coder>(
         (F.failed_names files.old) (F.failed_names files.new))
         (writing (S.told sink.old) (S.told sink.new) (S.faults sink.old) (S.faults sink.new) result) }
 {
-    match file_to_replay(words) {
-        Some(name) => replay_named(alloc, name, files, sink, coders),
+    match command_of(words) {
+        Some((Verb::Replay, name)) => replay_named(alloc, name, files, sink, coders),
+        Some((Verb::Probe, name)) => probe_named(alloc, name, files, sink),
         None => usage(sink),
     }
 }

@@ -8,12 +8,14 @@ pub const HELP: &str = "\
 Replays calls on W3C WebCodecs codecs, step by step, and writes a report of all that happened.
 
   wcrun replay FILE    replays the JSON script FILE; the report goes to standard output
-                       chunk files that the script names are looked for in the current folder
-                       a FILE that begins with - is written ./-NAME
+                       files of chunks that the script names are looked for in the current folder
+  wcrun probe FILE     tells what a WAV file, a native FLAC file or a chunk file holds, in one line
+
+A FILE that begins with - is written ./-NAME.
 
 The other commands of the usage line are not built yet: they end as words that are no command do.
 
-Status: 0 the report was written, 2 no command, 3 the script or a chunk file has a fault, 4 a file could not be read,
+Status: 0 all was written, 2 no command, 3 the script or a file of chunks has a fault, 4 a file could not be read,
 5 standard output failed, 6 out of memory, 7 a count is above its limit. Standard error says more of each fault.
 
 Scripts, chunk files and reports are described in docs/FORMATS.md of Zemirako, with worked scripts in demo/.

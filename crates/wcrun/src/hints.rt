@@ -1,18 +1,19 @@
 // What a person is told on standard error, beside what `top` wrote. No clause speaks of it: it reads the files again, and
 // decides nothing.
 
-use crate::command::file_to_replay;
+use crate::command::{Verb, command_of};
 use crate::help::{HELP, VERSION};
 use crate::prepare::prepare;
-use chunk_files::read_chunks;
+use crate::probe::probe;
 use script_hints::{fault_hints, member_warnings};
 use script_types::{Fault, Stop};
 use std::alloc::Global;
 use std::io::{self, Read};
 use std::{fs, rt};
 use wc_base::{Files, SystemFiles};
+use wc_demux::read_media_file;
 
-// The most bytes of a script, and of a chunk file.
+// The most bytes of a script, and of a media file.
 const MOST_SCRIPT: u64 = 16_777_216;
 
 const MOST_FILE: u64 = 268_435_456;
@@ -36,13 +37,13 @@ fn tell_unread<R: rt::Files + Eprint>(rt: &R, name: &str) {
     }
 }
 
-// How many chunks a chunk file has.
+// How many chunks a media file has.
 fn chunk_count<F: Files>(alloc: Global, files: &mut F, name: &str) -> Option<usize> {
     let Ok(bytes) = files.read_all(alloc, name, MOST_FILE) else {
         return None;
     };
-    match read_chunks(alloc, &bytes) {
-        Ok(chunks) => Some(chunks.len()),
+    match read_media_file(alloc, &bytes) {
+        Ok(medium) => Some(medium.into_chunks().len()),
         Err(_) => None,
     }
 }
@@ -55,18 +56,24 @@ fn held_by<F: Files>(alloc: Global, files: &mut F, fault: &Fault) -> Option<usiz
     }
 }
 
-// The fault for which the script in this file was not replayed.
-fn fault_of<F: Files>(alloc: Global, files: &mut F, name: &str) -> Option<Fault> {
-    match prepare(alloc, name, files) {
-        Err(Stop::Fault(fault)) => Some(fault),
-        _ => None,
+// The fault for which the script in this file was not replayed, or for which the media file has no line.
+fn fault_of<F: Files>(alloc: Global, files: &mut F, verb: Verb, name: &str) -> Option<Fault> {
+    match verb {
+        Verb::Replay => match prepare(alloc, name, files) {
+            Err(Stop::Fault(fault)) => Some(fault),
+            _ => None,
+        },
+        Verb::Probe => match probe(alloc, name, files) {
+            Err(Stop::Fault(fault)) => Some(fault),
+            _ => None,
+        },
     }
 }
 
-// Tells of the fault, and whether the script is JSON all the same.
-fn tell_fault<R: rt::Files + Eprint>(rt: &R, alloc: Global, name: &str) -> bool {
+// Tells of the fault, and whether there is a script that is JSON all the same.
+fn tell_fault<R: rt::Files + Eprint>(rt: &R, alloc: Global, verb: Verb, name: &str) -> bool {
     let mut files = SystemFiles::new(alloc, rt);
-    let Some(fault) = fault_of(alloc, &mut files, name) else {
+    let Some(fault) = fault_of(alloc, &mut files, verb, name) else {
         return false;
     };
     if let Fault::Unread { name } = &fault {
@@ -75,13 +82,16 @@ fn tell_fault<R: rt::Files + Eprint>(rt: &R, alloc: Global, name: &str) -> bool 
     }
     let held = held_by(alloc, &mut files, &fault);
     // of a script above its limit nothing is looked at
-    let text = files
-        .read_all(alloc, name, MOST_SCRIPT)
-        .unwrap_or(Vec::new(alloc));
+    let text = match verb {
+        Verb::Replay => files
+            .read_all(alloc, name, MOST_SCRIPT)
+            .unwrap_or(Vec::new(alloc)),
+        Verb::Probe => Vec::new(alloc),
+    };
     if let Ok(lines) = fault_hints(alloc, name, &text, &fault, held) {
         write(rt, &lines);
     }
-    fault != Fault::NotJson
+    verb == Verb::Replay && fault != Fault::NotJson
 }
 
 fn warn<R: rt::Files + Eprint>(rt: &R, alloc: Global, name: &str) {
@@ -102,13 +112,13 @@ pub fn tell<R: rt::Files + Eprint>(rt: &R, alloc: Global, words: &[String], stat
         );
         return;
     }
-    let Some(name) = file_to_replay(words) else {
+    let Some((verb, name)) = command_of(words) else {
         let _ = eprint!(rt; "wcrun {VERSION}\n\n{HELP}");
         return;
     };
     let warns = match status {
-        3 | 4 | 7 => tell_fault(rt, alloc, name),
-        _ => status == 0,
+        3 | 4 | 7 => tell_fault(rt, alloc, verb, name),
+        _ => status == 0 && verb == Verb::Replay,
     };
     if warns {
         warn(rt, alloc, name);

@@ -1,4 +1,4 @@
-//! Replays a script of calls on codecs, and writes the report of the run.
+//! Replays a script of calls on codecs, and writes the report of the run; or tells what a media file holds.
 #![tactic(auto)]
 
 mod calls;
@@ -14,10 +14,14 @@ mod flac_encode_rows;
 mod flac_rows;
 mod help;
 mod hints;
+mod laws;
 #[cfg(test)]
 mod media_rows;
 mod prepare;
 mod prepared;
+mod probe;
+#[cfg(test)]
+mod probe_rows;
 mod refusal;
 #[cfg(test)]
 mod rows;

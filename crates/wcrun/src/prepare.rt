@@ -4,9 +4,10 @@ ghost use Rattle.trace_text.specs.Missing.{missing_in};
 ghost use Rattle.media_files.specs.Media.{FailedBy};
 ghost use Rattle.wcrun.specs.Headline.{reading, ComesTo};
 ghost use Rattle.wc_script.specs.Faults.{IsOfScript};
-ghost use Rattle.wcrun.specs.Outcome.{playable_of, Becomes, name_of};
+ghost use Rattle.wcrun.specs.Outcome.{playable_of, Becomes, Runs, name_of};
 ghost use Rattle.wcrun.specs.Outcome as spec;
 ghost use Rattle.wcrun.specs.Stops.{MayStop, MayStopFor};
+ghost use Rattle.wcrun.specs.Words.{to_replay};
 ghost use Rattle.script_types.specs.Reading.{Gives};
 
 use crate::prepared::Prepared;
@@ -58,7 +59,7 @@ fn read_named<F: Files>(alloc: Global, name: &str, files: &mut F) -> Result<Scri
         (λ s. IfSome (F.content files.old)
         (λ held. IsSomeAnd (held name.now) (λ bytes. playable_of bytes ≡ Ok s))) }
     ensures order { IfOk result (λ s. IsSome s.order) }
-    ensures stop { IfErr result (λ e. MayStop (reading (Some name.now) (F.content files.old) (F.faults files.old) (F.faults files.new)
+    ensures stop { IfErr result (λ e. MayStop (reading (to_replay name.now) (F.content files.old) (F.faults files.old) (F.faults files.new)
         (F.bytes_read files.old) (F.bytes_read files.new)
         (F.failed_names files.old) (F.failed_names files.new)) e) }
     ensures names { FailedBy (F.failed_names files.old) (F.failed_names files.new) result }
@@ -93,7 +94,7 @@ fn no_index(alloc: Global, script: &Script, file: u32, place: Place) -> Stop<Fau
 }
 
 // The chunks of the script's chunk files, in which each chunk that a step takes is there.
-#[tactic(auto, using(crate::proofs::Stopping::media_stops))]
+#[tactic(auto, using(crate::proofs::Stopping::media_stops, crate::proofs::Stopping::chunk_files_read))]
 fn read_chunk_files<F: Files>(
     alloc: Global,
     script: &Script,
@@ -105,7 +106,7 @@ fn read_chunk_files<F: Files>(
     ensures ok { IfOk result
         (λ m. IfSome (F.content files.old)
         (λ held.
-        Becomes held (Ok script.now) (Ok (record { script = script.now; media = m.items })))) }
+        Becomes held (Ok script.now) (Ok (Runs (record { script = script.now; media = m.items }))))) }
     ensures each { IfOk result (λ m. length m.items ≡ length script.now.chunk_files) }
     ensures there { IfOk result (λ m. missing_in script.now m.items ≡ None) }
     ensures stop { IfErr result (λ e. MayStopFor (F.content files.old) script.now (F.faults files.old) (F.faults files.new)
@@ -123,13 +124,13 @@ fn read_chunk_files<F: Files>(
 
 /// The script of the file with this name, and the chunks of its chunk files, where it can be replayed.
 pub fn prepare<F: Files>(alloc: Global, name: &str, files: &mut F) -> Result<Prepared, Stop<Fault>>
-    ensures ok { IfOk result (λ p. ComesTo (reading (Some name.now) (F.content files.old) (F.faults files.old) (F.faults files.new)
+    ensures ok { IfOk result (λ p. ComesTo (reading (to_replay name.now) (F.content files.old) (F.faults files.old) (F.faults files.new)
         (F.bytes_read files.old) (F.bytes_read files.new)
-        (F.failed_names files.old) (F.failed_names files.new)) (Ok (record { script = p.script; media = p.media.items }))) }
+        (F.failed_names files.old) (F.failed_names files.new)) (Ok (Runs (record { script = p.script; media = p.media.items })))) }
     ensures order { IfOk result (λ p. IsSome p.script.order) }
     ensures each { IfOk result (λ p. length p.media.items ≡ length p.script.chunk_files) }
     ensures there { IfOk result (λ p. missing_in p.script p.media.items ≡ None) }
-    ensures stop { IfErr result (λ e. MayStop (reading (Some name.now) (F.content files.old) (F.faults files.old) (F.faults files.new)
+    ensures stop { IfErr result (λ e. MayStop (reading (to_replay name.now) (F.content files.old) (F.faults files.old) (F.faults files.new)
         (F.bytes_read files.old) (F.bytes_read files.new)
         (F.failed_names files.old) (F.failed_names files.new)) e) }
 {

@@ -2,7 +2,7 @@
 ghost use Rattle.std.specs.Prelude.{◌≡◌, ◌≢◌};
 ghost use Rattle.wcrun.specs.Refusals.{status_of};
 
-use chunk_files::ChunkFault;
+use chunk_files::{ChunkFault, DemuxFault, MediaFault};
 use script_types::{Counted, Fault, Place, Wrong};
 use std::fmt;
 
@@ -71,7 +71,45 @@ impl fmt::Display for WrongText {
 
 // The first fault of a chunk file, as a line tells it.
 #[derive(Clone, Copy)]
-struct FaultText(ChunkFault);
+struct ChunkFaultText(ChunkFault);
+
+impl fmt::Display for ChunkFaultText {
+    ghost use Rattle.std.specs.Prelude.{Some};
+    ghost use Rattle.wcrun.specs.Refusals.{chunk_fault_text};
+
+    ghost output = { λ x. Some (chunk_fault_text x.0) };
+
+    fn fmt<W: fmt::Write>(&self, f: &mut fmt::Formatter<W>) -> fmt::Result {
+        match self.0 {
+            ChunkFault::BadMark { at } => write!(f, "bad mark at {at}"),
+            ChunkFault::BadKind { at, found: _ } => write!(f, "bad kind at {at}"),
+            ChunkFault::Short { at } => write!(f, "short at {at}"),
+        }
+    }
+}
+
+// The first fault of a WAV file or a native FLAC file, as a line tells it.
+#[derive(Clone, Copy)]
+struct SoundFaultText(DemuxFault);
+
+impl fmt::Display for SoundFaultText {
+    ghost use Rattle.std.specs.Prelude.{Some};
+    ghost use Rattle.wcrun.specs.Refusals.{sound_fault_text};
+
+    ghost output = { λ x. Some (sound_fault_text x.0) };
+
+    fn fmt<W: fmt::Write>(&self, f: &mut fmt::Formatter<W>) -> fmt::Result {
+        match self.0 {
+            DemuxFault::BadWav { at } => write!(f, "bad wav at {at}"),
+            DemuxFault::Unsupported { tag, bits } => write!(f, "wav tag {tag} bits {bits}"),
+            DemuxFault::BadFlac { at } => write!(f, "bad flac at {at}"),
+        }
+    }
+}
+
+// The first fault of a media file, as a line tells it.
+#[derive(Clone, Copy)]
+struct FaultText(MediaFault);
 
 impl fmt::Display for FaultText {
     ghost use Rattle.std.specs.Prelude.{Some};
@@ -81,9 +119,14 @@ impl fmt::Display for FaultText {
 
     fn fmt<W: fmt::Write>(&self, f: &mut fmt::Formatter<W>) -> fmt::Result {
         match self.0 {
-            ChunkFault::BadMark { at } => write!(f, "bad mark at {at}"),
-            ChunkFault::BadKind { at, found: _ } => write!(f, "bad kind at {at}"),
-            ChunkFault::Short { at } => write!(f, "short at {at}"),
+            MediaFault::Chunks(fault) => {
+                let text = ChunkFaultText(fault);
+                write!(f, "{text}")
+            }
+            MediaFault::Sound(fault) => {
+                let text = SoundFaultText(fault);
+                write!(f, "{text}")
+            }
         }
     }
 }

@@ -181,7 +181,7 @@ pub(crate) fn each_ends(
 fn each_call_ends_with_its_status_and_text(rt: HostRuntime) -> Result<(), Fail> {
     let alloc = rt.alloc();
     let usage =
-        "usage: wcrun replay FILE | run FILE --workers N | load START N | check SCRIPT REPORT\n";
+        "usage: wcrun replay FILE | run FILE --workers N | load START N | check SCRIPT REPORT | probe FILE\n";
     let replay = ["replay", "s.json"];
     let rows: [(&[&str], &str, u8, &str); 9] = [
         (&replay, ORDINARY, 0, ORDINARY_REPORT),
