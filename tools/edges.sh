@@ -21,7 +21,7 @@ check() {
 }
 
 "$program" > out 2> hint
-check "no words" 2 "usage: wcrun replay FILE | run FILE --workers N | load START N | check SCRIPT REPORT" $?
+check "no words" 2 "usage: wcrun replay FILE | run FILE --workers N | load START N | check SCRIPT REPORT | probe FILE" $?
 
 "$program" replay missing.json > out 2> hint
 check "a missing file" 4 "read fault: missing.json" $?
@@ -45,6 +45,10 @@ check "a file above the limit" 7 "limit: script 16777217" $?
 head -c 16777216 /dev/zero > full.json
 "$program" replay full.json > out 2> hint
 check "a file of the limit that is no JSON" 3 "script: not json" $?
+
+head -c 268435457 /dev/zero > long
+"$program" probe long > out 2> hint
+check "a media file above the limit" 7 "limit: file 268435457" $?
 
 # Where the output cannot be written, nothing is wanted of what was written.
 : > out

@@ -12,12 +12,13 @@ import json
 import os
 import random
 import re
+import struct
 import subprocess
 import sys
 import tempfile
 
 TOP = os.path.dirname(os.path.dirname(os.path.realpath(__file__)))
-USAGE = "usage: wcrun replay FILE | run FILE --workers N | load START N | check SCRIPT REPORT\n"
+USAGE = "usage: wcrun replay FILE | run FILE --workers N | load START N | check SCRIPT REPORT | probe FILE\n"
 
 # Each line of this script is one item, so that the lines of hints are easy to see.
 SCRIPT = """{"codecs":[
@@ -97,6 +98,10 @@ ROWS = [
      's.json:6:50: step 1 of caller a: "index" is 7, and the chunk file speech has 2 chunks, numbered from 0'),
     ("a chunk file that is none", '"init":{"type":"key","timestamp":0,"data":"01000200"}', '"file":"s.json","index":0', "script: chunks s.json bad mark at 0",
      "s.json: a chunk file begins with WCC1, and the first 0 bytes of this one agree with that"),
+    ("a WAV file of another format", '"init":{"type":"key","timestamp":0,"data":"01000200"}', '"file":"float.wav","index":0', "script: chunks float.wav wav tag 3 bits 32",
+     "float.wav: its format has the tag 3 and 32 bits; 1 with 8, 16, 24 or 32, or 6 or 7 with 8 is wanted"),
+    ("a FLAC file that is cut", '"init":{"type":"key","timestamp":0,"data":"01000200"}', '"file":"cut.flac","index":0', "script: chunks cut.flac bad flac at 0",
+     "cut.flac: a FLAC file is fLaC, its blocks and then frames to its end; at byte 0 stands no description, or a block that is cut, or no frame of the stream"),
     ("a member that no rule knows", '"kind":"audio-decoder"', '"kind":"audio-decoder","sturation":2', None,
      's.json:2:38: warning: "sturation" is no member that is looked at here'),
     ("a member of another step", '"do":"decode",', '"do":"decode","as":"x",', None,
@@ -219,6 +224,10 @@ def main():
     with tempfile.TemporaryDirectory() as folder:
         with open(os.path.join(TOP, "demo", "speech"), "rb") as it, open(os.path.join(folder, "speech"), "wb") as to:
             to.write(it.read())
+        with open(os.path.join(folder, "float.wav"), "wb") as to:
+            to.write(b"RIFF$\0\0\0WAVEfmt \x10\0\0\0" + struct.pack("<HHIIHH", 3, 1, 8000, 32000, 4, 32) + b"data\0\0\0\0")
+        with open(os.path.join(folder, "cut.flac"), "wb") as to:
+            to.write(b"fLaC\x80")
         bad = check_rows(program, folder, table) + check_words(program) + check_changes(program, folder, count)
     return 1 if bad else 0
 

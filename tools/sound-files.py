@@ -1,8 +1,6 @@
 #!/usr/bin/env python3
 """Compares what the program reads from WAV and FLAC files with the system's tools and with tools/sound_reader.py.
 
-It wants a program with the command `probe`, and scripts that take such files: neither is built yet.
-
     tools/sound-files.py [--program PATH] [--changed N] [--seed S]
 
 Forty files are made with `flac` and `sox`. For each, the line of `probe` is compared with that of sound_reader.py, and its

@@ -1,11 +1,10 @@
 #!/usr/bin/env python3
-"""Reads WAV and native FLAC files and chunk files as `wc_demux` and `chunk_files` do, by the rules of docs/DEFINITIONS.md.
+"""Reads WAV and native FLAC files and chunk files as the program must (docs/FORMATS.md, "WAV and FLAC files").
 
     tools/sound_reader.py FILE ..
-        for each file one line of what it holds, or its fault
+        for each file the line of `wcrun probe`, or that of the fault
 
-It was written from the rules and not from the crates, so that the two can be compared once the program has a command
-`probe` (tools/sound-files.py).
+It was written from the rules and not from the program, so that tools/sound-files.py can compare the two.
 """
 import struct
 import sys
@@ -14,7 +13,7 @@ CODECS = {(1, 8): "pcm-u8", (1, 16): "pcm-s16", (1, 24): "pcm-s24", (1, 32): "pc
 
 
 class Fault(Exception):
-    """What is wrong with the file."""
+    """What the program says of the file, after `script: chunks NAME `."""
 
 
 # ---- chunk files
@@ -319,7 +318,7 @@ def read_flac(data):
 
 
 def line_of(data):
-    """The line of what the file holds, or of its fault, and a status of 0 or 3."""
+    """The line of `probe`, or what is said after `script: chunks NAME `, and the status."""
     try:
         if data[:4] == b"RIFF":
             return read_wav(data)[0], 0
