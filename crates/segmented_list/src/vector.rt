@@ -152,7 +152,8 @@ impl<T: Drop> SegmentedVec<T> {
         self.segments
     }
 
-    /// Makes room for at least so many more items. After want of memory the items and their room stand as they did.
+    /// Makes room for at least so many more items. After want of memory the items stand as they did,
+    /// and there is no less room.
     pub fn reserve(&mut self, more: usize) -> Result<(), NoMemory>
         ensures items { self.new.items ≡ self.old.items }
         ensures grows { self.old.places ≤ self.new.places }
