@@ -4,6 +4,7 @@ use Rattle.std.specs.Prelude.{option_map, unwrap_or}
 use Rattle.std.proofs.lemmas.List.{drop-drop, drop-append-le, drop_all}
 use Rattle.std.proofs.lemmas.List.Concat.{flat_map-append}
 use Rattle.std.proofs.Math.Seq.{drop-append-add}
+use Rattle.std.proofs.lemmas.Option.{slice_get_cases}
 use Rattle.wc_base.specs.declared.error.DomError.{DomError}
 use Rattle.codec_definitions.specs.declared.unit.Unit as media
 use Rattle.codec_model.specs.declared.entry.{Opening.Opening, Entry.Entry, Shown.Shown, Event.Event, Task.Task}
@@ -90,6 +91,10 @@ front_at entry unit xs x is lt = rw (drop_next entry xs x is, front_drop) (withi
 -- behind all entries none waits
 pub front_past : (entry unit : ℕ) (xs : List Shown) → length xs ≤ entry → front (outputs_behind entry unit xs) ≡ None
 front_past entry unit xs le = rw (drop_all entry xs le, front_drop) refl
+
+-- there is none from the end on
+pub none_past : {X : Type 0} (xs : List X) (n : ℕ) → slice_get xs n ≡ None → length xs ≤ n
+none_past xs n is = grind (arith, slice_get_cases, is)
 
 -- the first output that waits is passed
 pub behind_passed : (entry unit : ℕ) (xs : List Shown) → outputs_behind entry (unit + 1) xs ≡ drop 1 (outputs_behind entry unit xs)

@@ -52,11 +52,11 @@ task_outputs _ = []
 -- Each entry has what it showed and the state of its promise, there are places for more, and no more outputs were taken than
 -- were shown.
 pub record IsTrace (t : Inside) : Type 0 where
-  pub as_many_shown : vec_len t.shown ≡ vec_len t.entries
-  pub as_many_promises : vec_len t.promises ≡ vec_len t.entries
-  pub entries_fit : vec_len t.entries + t.free ≤ vec_capacity t.entries
-  pub shown_fit : vec_len t.shown + t.free ≤ vec_capacity t.shown
+  pub as_many_shown : length t.shown.items ≡ length t.entries.items
+  pub as_many_promises : vec_len t.promises ≡ length t.entries.items
+  pub entries_fit : length t.entries.items + t.free ≤ t.entries.places
+  pub shown_fit : length t.shown.items + t.free ≤ t.shown.places
   pub promises_fit : vec_len t.promises + t.free ≤ vec_capacity t.promises
   pub states : AreStates t.promises.items (ends_shown (map shown_of t.shown.items))
-  pub next_entry : t.next_entry ≤ vec_len t.shown
+  pub next_entry : t.next_entry ≤ length t.shown.items
   pub next_unit : t.next_unit ≤ length (units_shown (drop t.next_entry (map shown_of t.shown.items)))

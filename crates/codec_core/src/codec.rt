@@ -6,6 +6,7 @@ ghost use Rattle.codec_model.specs.Control.{start_item, may_take, may_reclaim};
 ghost use Rattle.codec_model.specs.Replay.{may_call, sends, takes, encode_error, missing_coder, IsLegal};
 ghost use Rattle.codec_model.specs.Facts.{IsNeverStuck};
 ghost use Rattle.codec_model.specs.Shown.{shown, shown_of, outputs_of, each_shown, ends_in, promise_state};
+ghost use Rattle.segmented_list.specs.Segments.{AreCut, joined};
 ghost use Rattle.codec_core.specs.declared.out.Out.TheVariants.{With};
 ghost use Rattle.codec_core.specs.Job.{IsJobOf, IsEndOf, outcome_of, missing_id, stopped_box};
 ghost use Rattle.codec_core.specs.Owning.{IsOwnJob, GoesBack};
@@ -20,6 +21,7 @@ use crate::work::{missing_id, outcome_of_end};
 use codec_model::{Call, CodecState, Entry, Kind, Opening, PromiseState, Showing, never_stuck};
 use codec_queues::Machine;
 use coder_api::{Coder, SlotBox, Unit};
+use segmented_list::{Segment, SegmentedList};
 use std::alloc::Global;
 use std::marker::Model;
 use std::mem;
@@ -77,14 +79,14 @@ impl<C: Coder> Core<C> {
         self.machine.opening()
     }
 
-    /// So many more resets and closes have a place.
+    /// So many more calls that send no message have a place: resets, closes, takes and refused encodes.
     pub fn spare(&self) -> u64
         ensures { result ≡ self.now.spare }
     {
         self.spare as u64
     }
 
-    /// Makes places for at least so many more resets and closes. After want of memory nothing has changed.
+    /// Makes places for at least so many more calls that send no message. After want of memory nothing has changed.
     pub fn reserve(&mut self, calls: u64) -> Result<(), NoMemory>
         ensures ok { OnOk result (self.new ≡ record self.old { spare = max calls self.old.spare }) }
         ensures err { OnErr result (self.new ≡ self.old) }
@@ -96,9 +98,10 @@ impl<C: Coder> Core<C> {
         Ok(())
     }
 
-    /// All entries so far. The state after them is never stuck.
-    pub fn history(&self) -> &[Entry]
-        ensures entries { result.now ≡ self.now.history }
+    /// All entries so far, in segments. The state after them is never stuck.
+    pub fn segments(&self) -> &[Segment<Entry>]
+        ensures entries { joined result.now ≡ self.now.history }
+        ensures cut { AreCut 0 result.now }
         ensures legal { IsLegal self.now.opening self.now.history }
         ensures place { (state_at self.now).control.place ≡ length self.now.history }
         ensures facts { IsNeverStuck (state_at self.now).control }
@@ -107,20 +110,37 @@ impl<C: Coder> Core<C> {
         self.trace.entries()
     }
 
+    /// The entry at a place; none from the end of the history on.
+    pub fn entry(&self, place: u64) -> Option<&Entry>
+        ensures { option_map (λ e. e.now) result ≡ slice_get self.now.history place }
+    {
+        self.trace.entry(place as usize)
+    }
+
     /// What each of the entries showed.
-    pub fn shown(&self) -> &[Showing]
-        ensures { map shown_of result.now ≡ each_shown self.now.opening self.now.history }
+    pub fn shown(&self) -> &[Segment<Showing>]
+        ensures shows { map shown_of (joined result.now)
+            ≡ each_shown self.now.opening self.now.history }
+        ensures cut { AreCut 0 result.now }
     {
         self.trace.shown()
     }
 
-    /// The history, and what each of its entries showed, with no memory.
-    pub fn into_trace(self) -> (Vec<Entry>, Vec<Showing>)
-        ensures entries { result.0.items ≡ self.history }
+    /// The history, what each of its entries showed, and the box that the codec holds, with no memory.
+    pub fn into_parts(
+        self,
+    ) -> (
+        SegmentedList<Entry>,
+        SegmentedList<Showing>,
+        Option<SlotBox<C>>,
+    )
+        ensures entries { result.0 ≡ self.history }
         ensures legal { IsLegal self.opening self.history }
-        ensures shows { map shown_of result.1.items ≡ each_shown self.opening self.history }
+        ensures shows { map shown_of result.1 ≡ each_shown self.opening self.history }
+        ensures slot { result.2 ≡ self.slot }
     {
-        self.trace.into_parts()
+        let (entries, showings) = self.trace.into_parts();
+        (entries, showings, self.slot)
     }
 
     /// What became of the promise of a flush, by its entry's place.
@@ -217,10 +237,9 @@ impl<C: Coder> Core<C> {
     {
         never_stuck();
         let promise = call.promise(self.machine.place());
-        let again = call.copy()?;
         let places = more_places(self.machine.room(), self.spare)?;
         self.trace.reserve(places)?;
-        let answer = self.machine.call(again)?;
+        let answer = self.machine.call(&call)?;
         self.trace.push(Entry::Call { who, call }, answer.showing);
         Ok(Reply {
             place: answer.place,
@@ -243,11 +262,7 @@ impl<C: Coder> Core<C> {
         never_stuck();
         let promise = call.promise(self.machine.place());
         let removes = call.removes();
-        let again = match call.copy() {
-            Ok(again) => again,
-            Err(NoMemory) => unreachable!(),
-        };
-        let answer = match self.machine.call(again) {
+        let answer = match self.machine.call(&call) {
             Ok(answer) => answer,
             Err(NoMemory) => unreachable!(),
         };
@@ -271,13 +286,13 @@ impl<C: Coder> Core<C> {
         ensures none { result.coder ≡ None }
         ensures running { KeepsRunning (state_at self.old) (state_at self.new) }
     {
-        let answer = match self.machine.call(Call::Take(unit)) {
+        let call = Call::Take(unit);
+        let answer = match self.machine.call(&call) {
             Ok(answer) => answer,
             Err(NoMemory) => unreachable!(),
         };
         self.trace.pass_output();
         self.spare -= 1;
-        let call = Call::Take(unit);
         self.trace.push(Entry::Call { who, call }, answer.showing);
         Reply {
             place: answer.place,

@@ -4,10 +4,12 @@ ghost use Rattle.std.specs.List.{All, AllByRecursion};
 ghost use Rattle.codec_model.specs.declared.entry.PromiseEnd.{PromiseEnd};
 ghost use Rattle.codec_model.specs.Control.{front};
 ghost use Rattle.codec_model.specs.Shown.{shown_of, units_in, units_shown, ends_of, ends_shown, promise_ended, promise_state};
+ghost use Rattle.segmented_list.specs.Segments.{AreCut, joined};
 ghost use Rattle.codec_core.specs.Trace.{AreStates, EndsBelow, outputs_behind, rejected, resolved_by, task_outputs};
 
 use codec_model::{Entry, PromiseState, Showing, Task};
 use coder_api::Unit;
+use segmented_list::{Segment, SegmentedList, SegmentedVec};
 use std::alloc::Global;
 use std::marker::Model;
 use wc_base::{DomError, NoMemory};
@@ -15,8 +17,8 @@ use wc_base::{DomError, NoMemory};
 /// The entries of a codec's history, what each of them showed, and how the promise of each stands.
 #[derive(Drop)]
 pub(crate) struct Trace {
-    entries: Vec<Entry>,
-    shown: Vec<Showing>,
+    entries: SegmentedVec<Entry>,
+    shown: SegmentedVec<Showing>,
     // By the place of the flush; pending at each entry that is none.
     promises: Vec<PromiseState>,
     // From here on no output was taken: from this entry on, but for so many outputs.
@@ -45,9 +47,13 @@ impl Trace {
             (λ t. t ≡ record { entries = []; shown = []; waiting = []; free = places }) }
         ensures fits { IfOk result (λ t. length t.entries + t.free < 2 ^ 63) }
     {
+        let mut entries = SegmentedVec::new(alloc);
+        entries.reserve(places)?;
+        let mut shown = SegmentedVec::new(alloc);
+        shown.reserve(places)?;
         Ok(Trace {
-            entries: Vec::with_capacity(alloc, places)?,
-            shown: Vec::with_capacity(alloc, places)?,
+            entries,
+            shown,
             promises: Vec::with_capacity(alloc, places)?,
             next_entry: 0,
             next_unit: 0,
@@ -84,8 +90,8 @@ impl Trace {
         self.free -= 1;
         self.promises.push_reserved(PromiseState::Pending);
         end_promises(&mut self.promises, &showing);
-        self.shown.push_reserved(showing);
-        self.entries.push_reserved(entry);
+        self.shown.push(showing);
+        self.entries.push(entry);
         self.pass_empty();
     }
 
@@ -93,7 +99,7 @@ impl Trace {
     fn pass_empty(&mut self)
         ensures { self.new ≡ self.old }
     {
-        let (entry, unit) = seek(self.shown.as_slice(), self.next_entry, self.next_unit);
+        let (entry, unit) = seek(&self.shown, self.next_entry, self.next_unit);
         self.next_entry = entry;
         self.next_unit = unit;
     }
@@ -102,8 +108,8 @@ impl Trace {
     pub(crate) fn next_output(&self) -> Option<&Unit>
         ensures { option_map (λ u. u.now) result ≡ front self.now.waiting }
     {
-        let (entry, unit) = seek(self.shown.as_slice(), self.next_entry, self.next_unit);
-        output_at(self.shown.as_slice(), entry, unit)
+        let (entry, unit) = seek(&self.shown, self.next_entry, self.next_unit);
+        output_at(&self.shown, entry, unit)
     }
 
     /// The first output that was not taken is taken.
@@ -111,31 +117,43 @@ impl Trace {
         requires { 1 ≤ length self.old.waiting }
         ensures { self.new ≡ record self.old { waiting = drop 1 self.old.waiting } }
     {
-        let (entry, unit) = seek(self.shown.as_slice(), self.next_entry, self.next_unit);
+        let (entry, unit) = seek(&self.shown, self.next_entry, self.next_unit);
         self.next_entry = entry;
         self.next_unit = unit + 1;
     }
 
     /// The entries.
-    pub(crate) fn entries(&self) -> &[Entry]
-        ensures { result.now ≡ self.now.entries }
+    pub(crate) fn entries(&self) -> &[Segment<Entry>]
+        ensures joined { joined result.now ≡ self.now.entries }
+        ensures cut { AreCut 0 result.now }
     {
-        self.entries.as_slice()
+        self.entries.segments()
+    }
+
+    /// The entry at a place; none from the end on.
+    pub(crate) fn entry(&self, place: usize) -> Option<&Entry>
+        ensures { option_map (λ e. e.now) result ≡ slice_get self.now.entries place }
+    {
+        self.entries.get(place)
     }
 
     /// What each of them showed.
-    pub(crate) fn shown(&self) -> &[Showing]
-        ensures { map shown_of result.now ≡ self.now.shown }
+    pub(crate) fn shown(&self) -> &[Segment<Showing>]
+        ensures joined { map shown_of (joined result.now) ≡ self.now.shown }
+        ensures cut { AreCut 0 result.now }
     {
-        self.shown.as_slice()
+        self.shown.segments()
     }
 
     /// The entries, and what each of them showed, with no memory.
-    pub(crate) fn into_parts(self) -> (Vec<Entry>, Vec<Showing>)
-        ensures entries { result.0.items ≡ self.entries }
-        ensures shown { map shown_of result.1.items ≡ self.shown }
+    pub(crate) fn into_parts(self) -> (SegmentedList<Entry>, SegmentedList<Showing>)
+        ensures entries { result.0 ≡ self.entries }
+        ensures shown { map shown_of result.1 ≡ self.shown }
     {
-        (self.entries, self.shown)
+        (
+            SegmentedList::of(self.entries),
+            SegmentedList::of(self.shown),
+        )
     }
 
     /// How the promise of the flush at this place stands.
@@ -185,11 +203,11 @@ fn unit_at(units: &[Unit], place: usize) -> Option<&Unit>
 }
 
 /// An output that an entry showed; none behind the last entry.
-fn output_at(shown: &[Showing], entry: usize, unit: usize) -> Option<&Unit>
-    requires { IfSome (slice_get shown.now entry)
+fn output_at(shown: &SegmentedVec<Showing>, entry: usize, unit: usize) -> Option<&Unit>
+    requires { IfSome (slice_get shown.now.items entry)
         (λ showing. unit < length (units_in (shown_of showing).events)) }
     ensures { option_map (λ u. u.now) result
-        ≡ front (outputs_behind entry unit (map shown_of shown.now)) }
+        ≡ front (outputs_behind entry unit (map shown_of shown.now.items)) }
 {
     match shown.get(entry) {
         Some(showing) => unit_at(outputs_of(showing), unit),
@@ -199,19 +217,22 @@ fn output_at(shown: &[Showing], entry: usize, unit: usize) -> Option<&Unit>
 
 /// Passes entries without outputs: from the place of an entry on, but for so many outputs, the place of the entry that showed
 /// the next output, or the end, and how many of its outputs come before that.
-fn seek(shown: &[Showing], mut entry: usize, mut unit: usize) -> (usize, usize)
-    requires entry { entry ≤ length shown.now }
-    requires unit { unit ≤ length (units_shown (drop entry (map shown_of shown.now))) }
-    ensures entry { result.0 ≤ length shown.now }
-    ensures unit { result.1 ≤ length (units_shown (drop result.0 (map shown_of shown.now))) }
-    ensures same { outputs_behind result.0 result.1 (map shown_of shown.now)
-        ≡ outputs_behind entry unit (map shown_of shown.now) }
-    ensures own { IfSome (slice_get shown.now result.0)
+fn seek(shown: &SegmentedVec<Showing>, mut entry: usize, mut unit: usize) -> (usize, usize)
+    requires entry { entry ≤ length shown.now.items }
+    requires unit { unit ≤ length (units_shown (drop entry (map shown_of shown.now.items))) }
+    ensures entry { result.0 ≤ length shown.now.items }
+    ensures unit { result.1 ≤ length (units_shown (drop result.0 (map shown_of shown.now.items))) }
+    ensures same { outputs_behind result.0 result.1 (map shown_of shown.now.items)
+        ≡ outputs_behind entry unit (map shown_of shown.now.items) }
+    ensures own { IfSome (slice_get shown.now.items result.0)
         (λ showing. result.1 < length (units_in (shown_of showing).events)) }
     ensures small { result.1 + 1 < 2 ^ 64 }
 {
     while entry < shown.len() {
-        let count = outputs_of(&shown[entry]).len();
+        let Some(showing) = shown.get(entry) else {
+            break;
+        };
+        let count = outputs_of(showing).len();
         if unit < count {
             break;
         }

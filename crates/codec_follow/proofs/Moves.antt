@@ -11,10 +11,10 @@ use Rattle.codec_follow.specs.Followed.{FollowerValue, Follows, known_with, know
 known_past : (o : Option DomError) (x : Call) (s : State) → known_of (called o x s).given.config ≡ known_after o x (known_of s.given.config)
 known_past o x s = grind arith
 
-pub call_follows : (who : Who) (x y : Call) (v : FollowerValue) (shown : Option Shown) (new : Control) (known : Known) → y ≡ x → may_call x v.control ≡ true → shown ≡ Some (record { turn = None; events = call_shows y v.control.place v.control.pending (call_error y v.control) }) → new ≡ after_call (call_error y v.control) y v.control → known ≡ known_after (call_error x v.control) x v.known → Follows (Entry.Call who x) v shown (record v { control = new; known = known })
-call_follows who x y v shown new known copied may told moved more = record {
-  answer = λ s is. grind (arith, copied, may, told, is);
-  after = λ s is. grind (arith, known_past, copied, may, moved, more, is);
+pub call_follows : (who : Who) (x : Call) (v : FollowerValue) (shown : Option Shown) (new : Control) (known : Known) → may_call x v.control ≡ true → shown ≡ Some (record { turn = None; events = call_shows x v.control.place v.control.pending (call_error x v.control) }) → new ≡ after_call (call_error x v.control) x v.control → known ≡ known_after (call_error x v.control) x v.known → Follows (Entry.Call who x) v shown (record v { control = new; known = known })
+call_follows who x v shown new known may told moved more = record {
+  answer = λ s is. grind (arith, may, told, is);
+  after = λ s is. grind (arith, known_past, may, moved, more, is);
 }
 
 known_more : (w : Work) (g : Given) → known_of (given_more w g).config ≡ known_with w (known_of g.config)

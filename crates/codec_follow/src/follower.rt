@@ -90,7 +90,7 @@ impl Follower {
             return Ok(None);
         }
         let error = self.machine.error_of(call);
-        let answer = self.machine.call(call.copy()?)?;
+        let answer = self.machine.call(call)?;
         self.known = known_after_call(call, error, self.known);
         let shown = answer.showing.into_shown(self.alloc)?;
         Ok(Some(shown))

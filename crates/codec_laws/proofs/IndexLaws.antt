@@ -3,16 +3,16 @@ use Rattle.std.proofs.Common.{ℕ, zero, suc, ◌≡◌, ◌+◌, ◌≤◌, ◌
 use Rattle.std.specs.Prelude.{option_map, unwrap_or}
 use Rattle.std.specs.List.{AllByRecursion}
 use Rattle.std.proofs.lemmas.Bool.{ne_eqb}
-use Rattle.codec_model.specs.declared.entry.{WorkKind.WorkKind, Work.Work, Entry.Entry, CodecState.CodecState}
+use Rattle.codec_model.specs.declared.entry.{Work.Work, Entry.Entry, CodecState.CodecState}
 use Rattle.codec_model.specs.Facts.{bit}
 use Rattle.codec_model.specs.Replay.{State, Given, given_more, nothing_given, opening_state, step}
 use Rattle.codec_model.specs.Shown.{shown_at}
 use Rattle.codec_laws.specs.declared.source.{Source.Source, Output.Output}
 use Rattle.codec_laws.specs.declared.sight.Sight.{Sight}
 use Rattle.codec_laws.specs.Sights.{sight_of, sights, sights_from}
-use Rattle.codec_laws.specs.Sources.{Book, given_by, shown_by, outputs, outputs_from, outputs_at, book_after, kept, removed}
+use Rattle.codec_laws.specs.Sources.{Book, given_by, shown_by, outputs, outputs_from, book_after, kept, removed}
 use Rattle.codec_laws.specs.Laws.{count_of, IndexesRise}
-use Rattle.codec_laws.proofs.Course.{Asked, waiting_asked, Course, course_after, fresh}
+use Rattle.codec_laws.proofs.Course.{Asked, Course, course_after, fresh}
 use Rattle.codec_laws.proofs.FlowLaws.{Flow, step_flow}
 use Rattle.codec_laws.proofs.OutLaws.{Outs, yields, sources_of, step_outs, take_and_drop}
 use Rattle.codec_laws.proofs.PlaceLaws.{Rising, rising_high, Begins, Calls, Fine, Here, here_first, here_rest, since_after, calls_more, step_phases, all_front, all_back, all_both, all_take, epoch_here, next_book}

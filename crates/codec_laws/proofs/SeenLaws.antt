@@ -1,8 +1,7 @@
 -- A codec whose outputs are blank is seen alike.
-use Rattle.std.proofs.Common.{ℕ, suc, ◌≡◌, ◌+◌, ◌-◌, ◌<◌, take, drop, get_or, true, List, [], ◌∷◌, ◌++◌, append_assoc, append-nil, length, map, Option, Some, None, is_some, refl, ap, sym, subst, ◌∙◌, arith}
+use Rattle.std.proofs.Common.{ℕ, suc, ◌≡◌, ◌+◌, true, List, [], ◌∷◌, ◌++◌, append_assoc, append-nil, length, map, Option, Some, None, is_some, refl, ap, sym, subst, ◌∙◌, arith}
 use Rattle.std.specs.Prelude.{option_and_then}
 use Rattle.std.proofs.lemmas.List.{length-replicate}
-use Rattle.std.proofs.Math.Seq.{take-length}
 use Rattle.wc_base.specs.{declared.error.DomError.DomError, Options.some_same}
 use Rattle.codec_definitions.specs.declared.unit.Unit as media
 use Rattle.codec_model.specs.declared.entry.{Opening.Opening, Call.Call, Entry.Entry, Event.Event, Shown.Shown, Task.Task}
@@ -112,20 +111,14 @@ seeing_more o h f g seen e es shown erases k w =
 
 -- ---- the same, by what the loop has at hand
 
-pub goes_at : (o : Opening) (h : List Entry) (f : FollowerValue) (seen : List Sight) (e : Entry) (rest : List Entry) → StepsErased → 0 < length rest → e ≡ get_or rest 0 e → IsSeeing o h f seen rest → Goes e f
-goes_at o h f seen e [] erases some first k = absurd (omega (arith, some))
-goes_at o h f seen e (x ∷ xs) erases some first k = seeing_goes o h f seen e xs erases (subst (λ (y : Entry). IsSeeing o h f seen (y ∷ xs)) (sym first) k)
+pub goes_at : (o : Opening) (h : List Entry) (f : FollowerValue) (seen : List Sight) (e : Entry) (rest more : List Entry) → StepsErased → rest ≡ e ∷ more → IsSeeing o h f seen rest → Goes e f
+goes_at o h f seen e rest more erases is k = seeing_goes o h f seen e more erases (subst (λ (l : List Entry). IsSeeing o h f seen l) is k)
 
-take_all : (n : ℕ) (xs : List Entry) → n ≡ length xs → take n xs ≡ xs
-take_all n xs e = ap (λ (m : ℕ). take m xs) e ∙ take-length xs
-
-pub more_at : (o : Opening) (h : List Entry) (f g : FollowerValue) (seen made : List Sight) (e : Entry) (shown : Shown) (size : ℕ) (one : Sight) (rest : List Entry) → StepsErased → 0 < length rest → e ≡ get_or rest 0 e → IsSeeing o h f seen rest → Went e f shown g → size ≡ g.control.size → one ≡ sight_of e shown size → made ≡ seen ++ one ∷ [] → IsSeeing o h g made (take (length rest - 1) (drop 1 rest))
-more_at o h f g seen made e shown size one [] erases some first k w now is more = absurd (omega (arith, some))
-more_at o h f g seen made e shown size one (x ∷ xs) erases some first k w now is more =
-    let next = seeing_more o h f g seen e xs shown erases (subst (λ (y : Entry). IsSeeing o h f seen (y ∷ xs)) (sym first) k) w in
+pub more_at : (o : Opening) (h : List Entry) (f g : FollowerValue) (seen made : List Sight) (e : Entry) (shown : Shown) (size : ℕ) (one : Sight) (rest left : List Entry) → StepsErased → rest ≡ e ∷ left → IsSeeing o h f seen rest → Went e f shown g → size ≡ g.control.size → one ≡ sight_of e shown size → made ≡ seen ++ one ∷ [] → IsSeeing o h g made left
+more_at o h f g seen made e shown size one rest left erases first k w now is more =
+    let next = seeing_more o h f g seen e left shown erases (subst (λ (l : List Entry). IsSeeing o h f seen l) first k) w in
     let made_is : made ≡ seen ++ sight_of e shown g.control.size ∷ [] = more ∙ ap (λ (y : Sight). seen ++ y ∷ []) (is ∙ ap (λ (n : ℕ). sight_of e shown n) now) in
-    subst (λ (l : List Sight). IsSeeing o h g l (take (length (x ∷ xs) - 1) xs)) (sym made_is) (subst (λ (l : List Entry). IsSeeing o h g (seen ++ sight_of e shown g.control.size ∷ []) l) (sym (take_all (length (x ∷ xs) - 1) xs (omega arith))) next)
+    subst (λ (l : List Sight). IsSeeing o h g l left) (sym made_is) next
 
-pub ends_at : (o : Opening) (h : List Entry) (f : FollowerValue) (seen : List Sight) (rest : List Entry) → length rest < 1 → IsSeeing o h f seen rest → seen ≡ sights o h
-ends_at o h f seen [] few k = sym (append-nil seen) ∙ k.sights
-ends_at o h f seen (x ∷ xs) few k = absurd (omega (arith, few))
+pub ends_at : (o : Opening) (h : List Entry) (f : FollowerValue) (seen : List Sight) (rest : List Entry) → rest ≡ [] → IsSeeing o h f seen rest → seen ≡ sights o h
+ends_at o h f seen rest none k = sym (append-nil seen) ∙ (subst (λ (l : List Entry). IsSeeing o h f seen l) none k).sights

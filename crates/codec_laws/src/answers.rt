@@ -2,6 +2,7 @@
 ghost use Rattle.std.specs.Prelude.{ℕ, ◌≡◌, ◌≤◌, IfOk, option_map, slice_get};
 ghost use Rattle.codec_model.specs.Replay.{IsLegal};
 ghost use Rattle.codec_model.specs.Shown.{promise_ended};
+ghost use Rattle.segmented_list.specs.Segments.{joined};
 ghost use Rattle.codec_laws.specs.Sights.{sights as the_sights};
 ghost use Rattle.codec_laws.specs.Sources.{end_at, end_from, ends_in};
 ghost use Rattle.codec_laws.specs.Answers.{output_of, call_and_turn, configure_and_index, IsOwnOutput, end_of as the_end};
@@ -12,6 +13,7 @@ use crate::seen::sights;
 use crate::sight::Sight;
 use crate::source::Output;
 use codec_model::{Entry, Opening, PromiseEnd, PromiseState};
+use segmented_list::Segment;
 use std::alloc::Global;
 use wc_base::NoMemory;
 
@@ -60,12 +62,12 @@ fn first_end(seen: &[Sight], promise: u64) -> Option<(u64, PromiseState)>
 pub fn promise_end(
     alloc: Global,
     opening: Opening,
-    history: &[Entry],
+    history: &[Segment<Entry>],
     promise: u64,
 ) -> Result<Option<(u64, PromiseState)>, NoMemory>
-    requires { IsLegal opening history.now }
-    ensures end { IfOk result (λ a. a ≡ the_end opening history.now promise) }
-    ensures once { ends_in promise (the_sights opening history.now) ≤ 1 }
+    requires { IsLegal opening (joined history.now) }
+    ensures end { IfOk result (λ a. a ≡ the_end opening (joined history.now) promise) }
+    ensures once { ends_in promise (the_sights opening (joined history.now)) ≤ 1 }
 {
     promises_end_once();
     let seen = sights(alloc, opening, history)?;
@@ -84,12 +86,12 @@ fn output_at(outputs: &[Output], number: u64) -> Option<Output>
 fn own_output(
     alloc: Global,
     opening: Opening,
-    history: &[Entry],
+    history: &[Segment<Entry>],
     number: u64,
 ) -> Result<Option<Output>, NoMemory>
-    requires { IsLegal opening history.now }
-    ensures output { IfOk result (λ a. a ≡ output_of opening history.now number) }
-    ensures own { IsOwnOutput opening history.now number }
+    requires { IsLegal opening (joined history.now) }
+    ensures output { IfOk result (λ a. a ≡ output_of opening (joined history.now) number) }
+    ensures own { IsOwnOutput opening (joined history.now) number }
 {
     nothing_old();
     let seen = sights(alloc, opening, history)?;
@@ -102,13 +104,13 @@ fn own_output(
 pub fn output_source(
     alloc: Global,
     opening: Opening,
-    history: &[Entry],
+    history: &[Segment<Entry>],
     number: u64,
 ) -> Result<Option<(u64, u64)>, NoMemory>
-    requires { IsLegal opening history.now }
+    requires { IsLegal opening (joined history.now) }
     ensures source { IfOk result
-        (λ a. a ≡ option_map call_and_turn (output_of opening history.now number)) }
-    ensures own { IsOwnOutput opening history.now number }
+        (λ a. a ≡ option_map call_and_turn (output_of opening (joined history.now) number)) }
+    ensures own { IsOwnOutput opening (joined history.now) number }
 {
     Ok(match own_output(alloc, opening, history, number)? {
         Some(output) => Some((output.source.call, output.turn)),
@@ -121,13 +123,13 @@ pub fn output_source(
 pub fn output_configuration(
     alloc: Global,
     opening: Opening,
-    history: &[Entry],
+    history: &[Segment<Entry>],
     number: u64,
 ) -> Result<Option<(u64, u64)>, NoMemory>
-    requires { IsLegal opening history.now }
+    requires { IsLegal opening (joined history.now) }
     ensures configuration { IfOk result
-        (λ a. a ≡ option_map configure_and_index (output_of opening history.now number)) }
-    ensures own { IsOwnOutput opening history.now number }
+        (λ a. a ≡ option_map configure_and_index (output_of opening (joined history.now) number)) }
+    ensures own { IsOwnOutput opening (joined history.now) number }
 {
     Ok(match own_output(alloc, opening, history, number)? {
         Some(output) => Some((output.source.configure, output.source.index)),

@@ -1,6 +1,7 @@
 // Where the size falls.
 ghost use Rattle.std.specs.Prelude.{◌≡◌, ◌≤◌, ◌<◌, true, IfOk};
 ghost use Rattle.codec_model.specs.Replay.{IsLegal};
+ghost use Rattle.segmented_list.specs.Segments.{joined};
 ghost use Rattle.codec_laws.specs.Laws.{IsFall};
 ghost use Rattle.codec_laws.specs.Seen.{fall_from};
 ghost use Rattle.codec_laws.specs.Sights.{is_coded as the_coded, falls as the_fall, dequeues_at, sights as the_sights};
@@ -9,6 +10,7 @@ use crate::laws::size_falls_between;
 use crate::seen::sights;
 use crate::sight::Sight;
 use codec_model::{Entry, Opening, WorkKind};
+use segmented_list::Segment;
 use std::alloc::Global;
 use wc_base::NoMemory;
 
@@ -54,16 +56,16 @@ fn first_fall(seen: &[Sight], after: u64, before: u64) -> Option<u64>
 pub fn fall_between(
     alloc: Global,
     opening: Opening,
-    history: &[Entry],
+    history: &[Segment<Entry>],
     after: u64,
     before: u64,
 ) -> Result<u64, NoMemory>
     requires saturation { 1 ≤ opening.saturation }
-    requires legal { IsLegal opening history.now }
+    requires legal { IsLegal opening (joined history.now) }
     requires order { after < before }
-    requires first { dequeues_at (the_sights opening history.now) after ≡ true }
-    requires last { dequeues_at (the_sights opening history.now) before ≡ true }
-    ensures { IfOk result (IsFall (the_sights opening history.now) after before) }
+    requires first { dequeues_at (the_sights opening (joined history.now)) after ≡ true }
+    requires last { dequeues_at (the_sights opening (joined history.now)) before ≡ true }
+    ensures { IfOk result (IsFall (the_sights opening (joined history.now)) after before) }
 {
     size_falls_between();
     let seen = sights(alloc, opening, history)?;

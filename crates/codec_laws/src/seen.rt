@@ -3,6 +3,7 @@ ghost use Rattle.std.specs.Prelude.{◌≡◌, ◌++◌, [], length, option_map,
 ghost use Rattle.codec_model.specs.Control.{kind_of};
 ghost use Rattle.codec_model.specs.Replay.{message_of, removes, IsLegal};
 ghost use Rattle.codec_model.specs.Shown.{units_in, ends_of, event_ends};
+ghost use Rattle.segmented_list.specs.Segments.{joined};
 ghost use Rattle.codec_laws.specs.Sights.{asked_for, aborts, rejects_with, listed, is_output as the_output, ran as the_run, dequeues as the_events, sight_of as the_sight, sights as the_sights};
 ghost use Rattle.codec_laws.specs.Seen.{Goes, Went};
 
@@ -11,6 +12,7 @@ use codec_follow::{Follower, legal_steps_are_followed};
 use codec_model::{
     Call, Entry, Event, Handed, Opening, Outcome, PromiseEnd, Shown, TurnWord, WorkKind,
 };
+use segmented_list::{Items, Segment};
 use std::alloc::Global;
 use wc_base::{DomError, List, NoMemory, try_push};
 
@@ -191,19 +193,22 @@ fn follow(follower: &mut Follower, entry: &Entry) -> Result<Shown, NoMemory>
 }
 
 /// What of each entry of a legal history the laws speak of.
-pub fn sights(alloc: Global, opening: Opening, history: &[Entry]) -> Result<Vec<Sight>, NoMemory>
-    requires { IsLegal opening history.now }
-    ensures { IfOk result (λ v. v.items ≡ the_sights opening history.now) }
+pub fn sights(
+    alloc: Global,
+    opening: Opening,
+    history: &[Segment<Entry>],
+) -> Result<Vec<Sight>, NoMemory>
+    requires { IsLegal opening (joined history.now) }
+    ensures { IfOk result (λ v. v.items ≡ the_sights opening (joined history.now)) }
 {
     legal_steps_are_followed();
     let mut follower = Follower::open(alloc, opening)?;
     let mut seen = Vec::new(alloc);
-    let mut rest = history;
-    while let [entry, more @ ..] = rest {
+    let mut rest = Items::of(history);
+    while let Some(entry) = rest.next() {
         let shown = follow(&mut follower, entry)?;
         let one = sight(alloc, entry, &shown, follower.size())?;
         try_push(&mut seen, one)?;
-        rest = more;
     }
     Ok(seen)
 }

@@ -90,7 +90,7 @@ impl<C: Coder> HoldingCore<C> {
         self.core
     }
 
-    /// Makes places for at least so many more resets and closes. After want of memory nothing has changed.
+    /// Makes places for at least so many more calls that send no message. After want of memory nothing has changed.
     pub fn reserve(&mut self, calls: u64) -> Result<(), NoMemory>
         ensures ok { let codec = self.old.codec in
             OnOk result (self.new.codec ≡ record codec { spare = max calls codec.spare }) }

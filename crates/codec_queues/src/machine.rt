@@ -530,10 +530,10 @@ impl Machine {
     }
 
     /// A call that is not refused and sends a message.
-    fn queue(&mut self, call: Call) -> Result<(), NoMemory>
+    fn queue(&mut self, call: &Call) -> Result<(), NoMemory>
         requires place { self.old.place + 1 < 2 ^ 64 }
-        requires sends { sends call ≡ true }
-        ensures ok { OnOk result (self.new ≡ accepted call self.old) }
+        requires sends { sends call.now ≡ true }
+        ensures ok { OnOk result (self.new ≡ accepted call.now self.old) }
         ensures left { left self.new ≤ left self.old + 7 }
         ensures err { OnErr result (self.new ≡ self.old) }
     {
@@ -541,14 +541,19 @@ impl Machine {
         let key_required = is_decoder(self.opening.kind) || self.key_required;
         match call {
             Call::Configure(config) => {
+                let config = config.copy()?;
                 self.send(
                     Work::Configure(config),
                     CodecState::Configured,
                     key_required,
                 )
             }
-            Call::Decode(chunk) => self.send(Work::Coded(Coded::Chunk(chunk)), phase, false),
+            Call::Decode(chunk) => {
+                let chunk = chunk.copy()?;
+                self.send(Work::Coded(Coded::Chunk(chunk)), phase, false)
+            }
             Call::Encode(Handed::Cloned(sound)) => {
+                let sound = sound.copy()?;
                 self.send(Work::Coded(Coded::Sound(sound)), phase, self.key_required)
             }
             Call::Flush => self.send(Work::Flush, phase, key_required),
@@ -598,39 +603,43 @@ impl Machine {
     }
 
     /// A call that is not refused. The answer is what it shows.
-    fn accept(&mut self, call: Call) -> Result<Showing, NoMemory>
+    fn accept(&mut self, call: &Call) -> Result<Showing, NoMemory>
         requires { self.old.place + 1 < 2 ^ 64 }
-        ensures ok { OnOk result (self.new ≡ accepted call self.old) }
+        ensures ok { OnOk result (self.new ≡ accepted call.now self.old) }
         ensures showing { IfOk result (λ s. shown_of s
-            ≡ record { turn = None; events = accepted_shows call self.old.pending }) }
+            ≡ record { turn = None; events = accepted_shows call.now self.old.pending }) }
         ensures left { left self.new ≤ left self.old + 7 }
-        ensures kept { sends call ≡ false → left self.new ≤ left self.old }
-        ensures cause { OnErr result (sends call ≡ true) }
+        ensures kept { sends call.now ≡ false → left self.new ≤ left self.old }
+        ensures cause { OnErr result (sends call.now ≡ true) }
         ensures err { OnErr result (self.new ≡ self.old) }
     {
         if call.sends() {
             self.queue(call)?;
             Ok(Showing::Nothing)
         } else {
-            Ok(self.make(&call))
+            Ok(self.make(call))
         }
     }
 
-    /// A call: refused, made at once, or queued with a place for each later step that comes of it. Memory is wanted only of
-    /// a call that sends a message, and then all is as it was.
-    pub fn call(&mut self, call: Call) -> Result<Answer, NoMemory>
+    /// A call: refused, made at once, or queued, over the same shared bytes, with a place for each later step that comes of
+    /// it. Memory is wanted only of a call that sends a message, and then all is as it was.
+    pub fn call(&mut self, call: &Call) -> Result<Answer, NoMemory>
         requires { self.old.place + 1 < 2 ^ 64 }
-        ensures ok { OnOk result (self.new ≡ after_call (call_error call self.old) call self.old) }
-        ensures answer { let error = call_error call self.old in
-            IfOk result (IsAnswer self.old.place (exception_of call error)
-            (record { turn = None; events = call_shows call self.old.place self.old.pending error })) }
+        ensures ok { OnOk result
+            (self.new ≡ after_call (call_error call.now self.old) call.now self.old) }
+        ensures answer { let error = call_error call.now self.old in
+            IfOk result (IsAnswer self.old.place (exception_of call.now error)
+            (record {
+              turn = None;
+              events = call_shows call.now self.old.place self.old.pending error;
+            })) }
         ensures left { left self.new ≤ left self.old + 7 }
-        ensures kept { sends call ≡ false → left self.new ≤ left self.old }
-        ensures cause { OnErr result (sends call ≡ true) }
+        ensures kept { sends call.now ≡ false → left self.new ≤ left self.old }
+        ensures cause { OnErr result (sends call.now ≡ true) }
         ensures err { OnErr result (self.new ≡ self.old) }
     {
         let place = self.place;
-        let error = self.error_of(&call);
+        let error = self.error_of(call);
         let exception = call.exception(error);
         let showing = match error {
             None => self.accept(call)?,

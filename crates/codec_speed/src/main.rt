@@ -105,7 +105,12 @@ fn decodes(alloc: Global, count: u64) -> Result<usize, NoMemory> {
         core.turn();
         core.turn();
     }
-    Ok(core.shown().iter().filter(|s| is_output(s)).count())
+    let mut outputs = 0_usize;
+    for segment in core.shown() {
+        let here = segment.items().iter().filter(|s| is_output(s)).count();
+        outputs = outputs.saturating_add(here);
+    }
+    Ok(outputs)
 }
 
 fn is_output(showing: &Showing) -> bool {
@@ -148,7 +153,8 @@ fn tasks(alloc: Global, count: u64, resets: bool) -> Result<usize, NoMemory> {
     if resets {
         core.call(WHO, Call::Reset)?;
     }
-    Ok(core.history().len())
+    let (entries, _, _) = core.look();
+    Ok(entries as usize)
 }
 
 fn words(rt: &(impl Env + Alloc<A = Global>)) -> io::Result<Vec<String>> {

@@ -165,10 +165,11 @@ fn ordinary_run(rt: HostRuntime) -> Result<(), Fail> {
     begins(&rt, alloc, &mut core)?;
     runs(&rt, alloc, &mut core);
     closes(&rt, &mut core);
-    let (entries, showings) = core.into_trace();
-    assert_eq!(rt; entries.len(), 11);
-    let shown = shown_list(alloc, showings)?;
-    assert_eq!(rt; shown.len(), 11);
+    let (entries, showings, slot) = core.into_parts();
+    assert!(rt; slot.is_none());
+    assert_eq!(rt; (entries.len(), showings.len()), (11, 11));
+    let segment = showings.into_segments().pop().expect(&rt, "a segment");
+    let shown = shown_list(alloc, segment.into_items())?;
     assert_eq!(rt; shown[8].turn, Some(TurnWord::Flushed));
     assert_eq!(rt; shown[8].events.as_slice(), [Event::Resolve(1)].as_slice());
     assert_eq!(rt;
@@ -188,6 +189,10 @@ fn each_of_many_flushes_is_rejected(rt: HostRuntime) -> Result<(), Fail> {
     let rejected = PromiseState::Rejected(DomError::InvalidState);
     assert_eq!(rt; (core.end_of(0), core.end_of(1024)), (rejected, rejected));
     assert_eq!(rt; core.end_of(1025), PromiseState::Pending);
-    assert_eq!(rt; core.history().len(), 1025);
+    let [whole, last] = core.segments() else {
+        panic!(rt; "two segments");
+    };
+    assert_eq!(rt; (whole.first(), whole.items().len()), (0, 1024));
+    assert_eq!(rt; (last.first(), last.items().len()), (1024, 1));
     Ok(())
 }

@@ -92,7 +92,10 @@ fn decodes(rt: &impl Abort, alloc: Global, core: &mut Core<SampleCoder>) -> Resu
 }
 
 fn shows(rt: &impl Abort, core: &Core<SampleCoder>) {
-    match core.shown() {
+    let [segment] = core.shown() else {
+        panic!(rt; "one segment");
+    };
+    match segment.items() {
         [
             ..,
             Showing::Turn {

@@ -51,7 +51,7 @@ fn units(alloc: Global) -> Result<List<Unit>, AllocError> {
 fn call(machine: &mut Machine, call: Call) -> bool {
     machine.place() < 100
         && machine
-            .call(call)
+            .call(&call)
             .is_ok_and(|answer| answer.exception.is_none())
 }
 

@@ -6,6 +6,7 @@ ghost use Rattle.law_rows.specs.Rows.{four, made, pcm, closing as the_closing};
 use crate::rows::closing_run;
 use codec_laws::{output_configuration, output_source, promise_end};
 use codec_model::{Call, Entry, Kind, Opening, PromiseState};
+use segmented_list::SegmentedVec;
 use std::alloc::Global;
 use std::test::Fail;
 use wc_base::{DomError, Text, Who};
@@ -53,19 +54,28 @@ fn closing(alloc: Global) -> Result<Vec<Entry>, Fail>
     Ok(vec![in alloc; configure, flush, second, close, again, refused]?)
 }
 
+fn in_segments(alloc: Global, entries: Vec<Entry>) -> Result<SegmentedVec<Entry>, Fail> {
+    let mut list = SegmentedVec::new(alloc);
+    for entry in entries {
+        list.try_push(entry)?;
+    }
+    Ok(list)
+}
+
 #[test]
 fn two_flushes_then_a_close(rt: HostRuntime) -> Result<(), Fail> {
     closing_run();
     let alloc = rt.alloc();
-    let history = closing(alloc)?;
-    let end = promise_end(alloc, opening(4), &history, 1);
+    let history = in_segments(alloc, closing(alloc)?)?;
+    let history = history.segments();
+    let end = promise_end(alloc, opening(4), history, 1);
     assert_eq!(rt; end, Ok(Some((3, PromiseState::Rejected(DomError::Abort)))));
-    let refused = promise_end(alloc, opening(4), &history, 5);
+    let refused = promise_end(alloc, opening(4), history, 5);
     let invalid = PromiseState::Rejected(DomError::InvalidState);
     assert_eq!(rt; refused, Ok(Some((5, invalid))));
-    assert_eq!(rt; output_source(alloc, opening(4), &history, 0), Ok(None));
+    assert_eq!(rt; output_source(alloc, opening(4), history, 0), Ok(None));
     assert_eq!(rt;
-        output_configuration(alloc, opening(4), &history, 0),
+        output_configuration(alloc, opening(4), history, 0),
         Ok(None)
     );
     Ok(())

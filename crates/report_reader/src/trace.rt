@@ -16,6 +16,7 @@ use codec_model::{Entry, Event, Kind, Opening, Shown, TurnWord};
 use coder_api::Unit;
 use report_text::{EntryLine, Line};
 use script_types::ScriptData;
+use segmented_list::{SegmentedList, SegmentedVec};
 use std::alloc::Global;
 use trace_text::CodecTrace;
 use wc_base::{List, NoMemory};
@@ -118,7 +119,7 @@ fn with_shown(entry: Entry, shown: Option<Shown>) -> Option<(Entry, Shown)>
 }
 
 // The place of the entry behind these.
-fn place_behind(entries: &Vec<Entry>) -> u64
+fn place_behind(entries: &SegmentedVec<Entry>) -> u64
     ensures { result ≡ length entries.now.items }
 {
     entries.len() as u64
@@ -143,8 +144,8 @@ fn trace_of(
     ensures fits { IfOk result FitsTrace }
 {
     let mut follower = Follower::open(alloc, opening)?;
-    let mut entries = Vec::new(alloc);
-    let mut shown = Vec::new(alloc);
+    let mut entries = SegmentedVec::new(alloc);
+    let mut shown = SegmentedVec::new(alloc);
     let mut left = units;
     let mut rest = lines;
     while let [line, more @ ..] = rest {
@@ -162,8 +163,8 @@ fn trace_of(
             None => return Ok(trace_with(opening, entries, shown)),
             Some((entry, blank)) => {
                 let (events, behind) = filled(alloc, opening.kind, blank.events.as_slice(), left)?;
-                push(&mut entries, entry)?;
-                push(&mut shown, shown_with(blank.turn, events))?;
+                entries.try_push(entry)?;
+                shown.try_push(shown_with(blank.turn, events))?;
                 left = behind;
             }
         }
@@ -181,13 +182,17 @@ fn shown_with(turn: Option<TurnWord>, events: Vec<Event>) -> Shown
     }
 }
 
-fn trace_with(opening: Opening, entries: Vec<Entry>, shown: Vec<Shown>) -> CodecTrace
+fn trace_with(
+    opening: Opening,
+    entries: SegmentedVec<Entry>,
+    shown: SegmentedVec<Shown>,
+) -> CodecTrace
     ensures { result ≡ record { opening = opening; entries = entries.items; shown = shown.items } }
 {
     CodecTrace {
         opening,
-        entries: List::of(entries),
-        shown: List::of(shown),
+        entries: SegmentedList::of(entries),
+        shown: SegmentedList::of(shown),
     }
 }
 

@@ -326,7 +326,7 @@ fn each_is_judged(
 
 // What the entry with this number handed to its encoder, if it is an encode that was accepted.
 fn handed_at(trace: &CodecTrace, number: usize) -> Option<(Who, &HeldSound)> {
-    match trace.entries.as_slice().get(number) {
+    match trace.entries.get(number) {
         Some(
             Entry::Call {
                 who,

@@ -288,7 +288,8 @@ fn takes_are_read_and_written_again(rt: HostRuntime) -> Result<(), Fail> {
     };
     assert_eq!(rt; later_results(&run), [found, none].as_slice());
     let codec = run.codecs.as_slice().first().expect(&rt, "a codec");
-    let last = codec.entries.as_slice().last().expect(&rt, "an entry");
+    let behind = codec.entries.len().saturating_sub(1);
+    let last = codec.entries.get(behind).expect(&rt, "an entry");
     let who = Who { caller: 0, step: 5 };
     let call = Call::Take(0);
     assert!(rt; *last == Entry::Call { who, call });

@@ -8,6 +8,7 @@ use codec_model::{
 };
 use coder_api::{SlotEntry, SlotOp, Unit};
 use script_types::{CallerItem, CodecItem, Script, ScriptData};
+use segmented_list::{SegmentedList, SegmentedVec};
 use std::alloc::Global;
 use std::test::Fail;
 use trace_text::{CallerTrace, CodecTrace, Run, StepResult, WriteFault, write_report};
@@ -194,14 +195,22 @@ fn shown(alloc: Global) -> Result<Vec<Shown>, Fail> {
     Ok(shown)
 }
 
+fn in_segments<T: Drop>(alloc: Global, items: Vec<T>) -> Result<SegmentedList<T>, Fail> {
+    let mut list = SegmentedVec::new(alloc);
+    for item in items {
+        list.try_push(item)?;
+    }
+    Ok(SegmentedList::of(list))
+}
+
 fn ordinary_run(alloc: Global) -> Result<Run, Fail> {
     let caller = CallerTrace {
         results: List::of(results(alloc)?),
     };
     let codec = CodecTrace {
         opening: OPENING,
-        entries: List::of(entries(alloc)?),
-        shown: List::of(shown(alloc)?),
+        entries: in_segments(alloc, entries(alloc)?)?,
+        shown: in_segments(alloc, shown(alloc)?)?,
     };
     let acquire = SlotEntry {
         by: By::Codec { codec: 0, place: 3 },
@@ -401,8 +410,8 @@ fn other_run(alloc: Global) -> Result<Run, Fail> {
     };
     let codec = CodecTrace {
         opening: OPENING,
-        entries: List::of(other_entries(alloc)?),
-        shown: List::of(other_shown(alloc)?),
+        entries: in_segments(alloc, other_entries(alloc)?)?,
+        shown: in_segments(alloc, other_shown(alloc)?)?,
     };
     let id = CoderId {
         role: Role::Encode,

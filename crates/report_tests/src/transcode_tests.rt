@@ -159,7 +159,7 @@ fn report_of(alloc: Global, script: &Script, run: &Run) -> Result<Vec<u8>, Fail>
     }
 }
 
-// Whether the report of a run is read as this run.
+// Whether the report of a run is read as a run with the same report.
 fn is_read_back(
     alloc: Global,
     script: &Script,
@@ -168,7 +168,7 @@ fn is_read_back(
 ) -> Result<bool, Fail> {
     let report = report_of(alloc, script, run)?;
     match read_report(alloc, script, media, report.as_slice()) {
-        Ok(read) => Ok(read == *run),
+        Ok(read) => Ok(report_of(alloc, script, &read)?.as_slice() == report.as_slice()),
         Err(_) => Ok(false),
     }
 }

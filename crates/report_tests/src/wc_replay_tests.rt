@@ -179,12 +179,6 @@ fn a_chunk_of_a_file_is_decoded(rt: HostRuntime) -> Result<(), Fail> {
         who: Who { caller: 0, step: 2 },
         call: Call::Decode(chunk(alloc)?),
     };
-    assert!(rt;
-        codec
-            .entries
-            .as_slice()
-            .get(1)
-            .is_some_and(|entry| *entry == decode)
-    );
+    assert!(rt; codec.entries.get(1).is_some_and(|entry| *entry == decode));
     Ok(())
 }

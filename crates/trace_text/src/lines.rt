@@ -1,5 +1,5 @@
 // The lines of a run, made one after another.
-ghost use Rattle.std.specs.Prelude.{◌≡◌, ◌∷◌, ◌++◌, List, IfOk, flat_map};
+ghost use Rattle.std.specs.Prelude.{◌≡◌, [], ◌∷◌, ◌++◌, List, IfOk, flat_map};
 ghost use Rattle.std.specs.List.{zip};
 ghost use Rattle.std.specs.Option.{option_to_list};
 ghost use Rattle.report_text.specs.declared.line.Line.{Line as LineValue};
@@ -8,12 +8,13 @@ ghost use Rattle.trace_text.specs.Report.{lines_from};
 ghost use Rattle.trace_text.specs.Report as spec;
 ghost use Rattle.trace_text.specs.Behind.{lines_in, lines_behind};
 
-use crate::numbered::Numbered;
+use crate::numbered::{Numbered, NumberedIn};
 use crate::{CallerTrace, CodecTrace, Run};
 use bytes::Bytes;
 use codec_model::{Call, Entry, Event, Shown};
 use coder_api::{SlotEntry, Unit};
 use report_text::{CallWord, EntryLine, EventLine, Line, StepResult};
+use segmented_list::SegmentedList;
 use std::alloc::Global;
 use std::marker::Model;
 use wc_base::{DomError, NoMemory, Picture, Samples, Who};
@@ -180,8 +181,8 @@ impl<'a> EventLines<'a> {
 #[derive(Drop)]
 struct EntryLines<'a> {
     events: EventLines<'a>,
-    entries: Numbered<'a, Entry>,
-    shown: Numbered<'a, Shown>,
+    entries: NumberedIn<'a, Entry>,
+    shown: NumberedIn<'a, Shown>,
 }
 
 impl<'a> Model for EntryLines<'a> {
@@ -191,13 +192,23 @@ impl<'a> Model for EntryLines<'a> {
 }
 
 impl<'a> EntryLines<'a> {
-    fn of(entries: &'a [Entry], shown: &'a [Shown]) -> EntryLines<'a>
+    fn none() -> EntryLines<'a>
+        ensures { result ≡ [] }
+    {
+        EntryLines {
+            events: EventLines::of(&[]),
+            entries: NumberedIn::none(),
+            shown: NumberedIn::none(),
+        }
+    }
+
+    fn of(entries: &'a SegmentedList<Entry>, shown: &'a SegmentedList<Shown>) -> EntryLines<'a>
         ensures { result ≡ lines_from spec.entry_lines 0 (zip entries.now shown.now) }
     {
         EntryLines {
             events: EventLines::of(&[]),
-            entries: Numbered::of(entries),
-            shown: Numbered::of(shown),
+            entries: NumberedIn::of(entries),
+            shown: NumberedIn::of(shown),
         }
     }
 
@@ -240,7 +251,7 @@ impl<'a> CodecLines<'a> {
         ensures { result ≡ lines_from spec.codec_lines 0 codecs.now }
     {
         CodecLines {
-            entries: EntryLines::of(&[], &[]),
+            entries: EntryLines::none(),
             codecs: Numbered::of(codecs),
         }
     }
@@ -254,7 +265,7 @@ impl<'a> CodecLines<'a> {
         let Some((number, codec)) = self.codecs.next() else {
             return Ok(None);
         };
-        self.entries = EntryLines::of(codec.entries.as_slice(), codec.shown.as_slice());
+        self.entries = EntryLines::of(&codec.entries, &codec.shown);
         Ok(Some(Line::Codec {
             codec: number as u64,
             opening: codec.opening,

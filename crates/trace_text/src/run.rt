@@ -2,6 +2,7 @@
 use codec_model::{Entry, Opening, Shown};
 use coder_api::SlotEntry;
 use report_text::StepResult;
+use segmented_list::SegmentedList;
 use wc_base::List;
 use wc_pool::PoolEntry;
 
@@ -12,16 +13,16 @@ pub struct CallerTrace {
 }
 
 /// A codec's history, and what each of its entries showed.
-#[derive(Debug, PartialEq, Drop)]
+#[derive(Debug, Drop)]
 pub struct CodecTrace {
     pub opening: Opening,
-    pub entries: List<Entry>,
-    pub shown: List<Shown>,
+    pub entries: SegmentedList<Entry>,
+    pub shown: SegmentedList<Shown>,
 }
 
 /// All that a run recorded: callers and codecs in the script's order, the history of the pool of media, the registry's, and
 /// how many media resources were still held at the end.
-#[derive(Debug, PartialEq, Drop)]
+#[derive(Debug, Drop)]
 pub struct Run {
     pub callers: List<CallerTrace>,
     pub codecs: List<CodecTrace>,

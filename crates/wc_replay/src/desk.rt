@@ -16,13 +16,15 @@ ghost use Rattle.trace_text.specs.Follow.{promise_after, outcome_for, start_entr
 ghost use Rattle.wc_replay.specs.Desk.{box_out, box_in, pairs_in, waiting_if, media_without, LacksBox, Makes, IsNext};
 
 use crate::boxes::{fill, give, let_go};
+use crate::showings::all_shown;
 use codec_core::{DoneJob, Job};
 use codec_drive::run;
 use codec_media::{HoldingCore, Removed, Reply};
-use codec_model::{Call, CodecState, Entry, Opening, PromiseState, Shown, shown_list};
+use codec_model::{Call, CodecState, Entry, Opening, PromiseState, Shown};
 use coder_api::{Coder, Unit};
 use media_variables::CallerMedia;
 use script_types::OrderItem;
+use segmented_list::SegmentedList;
 use slot_registry::Slots;
 use std::alloc::Global;
 use std::marker::Model;
@@ -263,12 +265,15 @@ impl<C: Coder> Desk<C> {
     }
 
     /// The history, and what each entry showed.
-    pub(crate) fn into_trace(self, alloc: Global) -> Result<(Vec<Entry>, Vec<Shown>), NoMemory>
-        ensures entries { IfOk result (λ t. t.0.items ≡ self.history) }
-        ensures shown { IfOk result (λ t. t.1.items ≡ each_shown self.opening self.history) }
+    pub(crate) fn into_trace(
+        self,
+        alloc: Global,
+    ) -> Result<(SegmentedList<Entry>, SegmentedList<Shown>), NoMemory>
+        ensures entries { IfOk result (λ t. t.0 ≡ self.history) }
+        ensures shown { IfOk result (λ t. t.1 ≡ each_shown self.opening self.history) }
     {
-        let (entries, showings) = self.core.into_core().into_trace();
-        let shown = shown_list(alloc, showings)?;
+        let (entries, showings, _) = self.core.into_core().into_parts();
+        let shown = all_shown(alloc, showings)?;
         Ok((entries, shown))
     }
 }

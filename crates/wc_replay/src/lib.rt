@@ -8,6 +8,7 @@ mod missing;
 mod moving;
 mod playing;
 mod results;
+mod showings;
 mod steps;
 
 pub use missing::missing_chunk;

@@ -94,8 +94,8 @@ fn codec_trace<C: Coder>(alloc: Global, desk: Desk<C>) -> Result<CodecTrace, NoM
     let (entries, shown) = desk.into_trace(alloc)?;
     Ok(CodecTrace {
         opening,
-        entries: List::of(entries),
-        shown: List::of(shown),
+        entries,
+        shown,
     })
 }
 

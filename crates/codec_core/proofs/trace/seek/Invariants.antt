@@ -5,10 +5,10 @@ use Rattle.codec_core.proofs.trace.seek.Given as goal
 
 abbrev pub invariant-loop-entry : goal.invariant-loop-entry
 invariant-loop-entry l = record {
-  entry : l.entry ≤ length l.shown;
-  unit : l.unit ≤ length (units_shown (drop l.entry (map shown_of l.shown)));
-  same : outputs_behind l.entry l.unit (map shown_of l.shown) ≡ outputs_behind l.initial.entry l.initial.unit (map shown_of l.shown);
+  entry : l.entry ≤ length l.shown.items;
+  unit : l.unit ≤ length (units_shown (drop l.entry (map shown_of l.shown.items)));
+  same : outputs_behind l.entry l.unit (map shown_of l.shown.items) ≡ outputs_behind l.initial.entry l.initial.unit (map shown_of l.shown.items);
 }
 
 abbrev pub decreases-loop-entry : goal.decreases-loop-entry
-decreases-loop-entry l = length l.shown - l.entry
+decreases-loop-entry l = length l.shown.items - l.entry

@@ -11,31 +11,31 @@ use Rattle.codec_core.proofs.codec.Core.make.Given.{Over}
 use Rattle.codec_core.proofs.codec.Core.make.Goals as goal
 
 pub push-requires-clause-ends : goal.push-requires-clause-ends
-push-requires-clause-ends g c = call_ends c.never_stuck.ensures.facts c.self.invariant.kept c.args.call _ (rw c.in-Ok.ensures.ok at c.in-Ok-call.ensures.answer.is_shown)
+push-requires-clause-ends g c = call_ends c.never_stuck.ensures.facts c.self.invariant.kept c.args.call _ c.in-Ok.ensures.answer.is_shown
 
 may : (g : Over) (c : goal.After-push g) → may_call c.args.call c.self.inside.machine ≡ true
 may g c = rw (control_at c.self.invariant c.self.view_is) at c.requires.may
 
 stays : (g : Over) (c : goal.After-push g) → c.box_stays-stays.result ≡ not (removes c.args.call && is_none (call_error c.args.call c.self.inside.machine))
-stays g c = rw (c.box_stays-stays.ensures, c.removes-removes.ensures, rw c.in-Ok.ensures.ok at c.in-Ok-call.ensures.answer.is_exception) (ap not (removes_by_exception c.args.call _))
+stays g c = rw (c.box_stays-stays.ensures, c.removes-removes.ensures, c.in-Ok.ensures.answer.is_exception) (ap not (removes_by_exception c.args.call _))
 
 box : (g : Over) (c : goal.After-push g) → c.hand_back-coder.new.slot ≡ kept_box (not (removes c.args.call && is_none (call_error c.args.call c.self.inside.machine))) c.self.inside.slot
 box g c = rw (stays g c) at c.hand_back-coder.ensures.left
 
 pub invariant_of-self : goal.invariant_of-self
 invariant_of-self g c =
-    let m = made_moves c.self.invariant.kept c.args.who c.args.call c.requires.sends c.requires.takes (may g c) (box g c) (rw c.in-Ok.ensures.ok at c.in-Ok-call.ensures.ok) in
+    let m = made_moves c.self.invariant.kept c.args.who c.args.call c.requires.sends c.requires.takes (may g c) (box g c) c.in-Ok.ensures.ok in
     rw c.push.ensures
-    (core_called c.self.invariant c.args.who c.args.call m (c.self.inside.spare - 1) (box g c) _ _ (rw c.in-Ok.ensures.ok at c.in-Ok-call.ensures.answer.is_shown) c.requires.takes (
-      omega (arith, (rw c.in-Ok.ensures.ok at c.in-Ok-call.ensures.kept) c.requires.sends, c.requires.spare, ap (λ (v : Codec). v.spare) c.self.view_is, c.self.invariant.places, place_kept c.self.invariant.kept m),
+    (core_called c.self.invariant c.args.who c.args.call m (c.self.inside.spare - 1) (box g c) _ _ c.in-Ok.ensures.answer.is_shown c.requires.takes (
+      omega (arith, c.in-Ok.ensures.kept c.requires.sends, c.requires.spare, ap (λ (v : Codec). v.spare) c.self.view_is, c.self.invariant.places, place_kept c.self.invariant.kept m),
       c.self.invariant.fits,
     ))
 
 pub returns-clause-replied : goal.returns-clause-replied
 returns-clause-replied g c =
-    let m = made_moves c.self.invariant.kept c.args.who c.args.call c.requires.sends c.requires.takes (may g c) (box g c) (rw c.in-Ok.ensures.ok at c.in-Ok-call.ensures.ok) in
+    let m = made_moves c.self.invariant.kept c.args.who c.args.call c.requires.sends c.requires.takes (may g c) (box g c) c.in-Ok.ensures.ok in
     rw (← c.self.view_is, c.push.ensures)
-    (replied c.self.invariant c.args.who c.args.call m (c.self.inside.spare - 1) (box g c) _ _ _ _ c.in-Ok-call.ensures.answer.is_place (rw c.in-Ok.ensures.ok at c.in-Ok-call.ensures.answer.is_exception) (rw c.place.ensures at c.promise-promise.ensures) (rw (stays g c) at c.hand_back-coder.ensures.taken) (rw c.requires.sends (omega (arith, c.requires.spare, ap (λ (v : Codec). v.spare) c.self.view_is))))
+    (replied c.self.invariant c.args.who c.args.call m (c.self.inside.spare - 1) (box g c) _ _ _ _ c.in-Ok.ensures.answer.is_place c.in-Ok.ensures.answer.is_exception (rw c.place.ensures at c.promise-promise.ensures) (rw (stays g c) at c.hand_back-coder.ensures.taken) (rw c.requires.sends (omega (arith, c.requires.spare, ap (λ (v : Codec). v.spare) c.self.view_is))))
 
 pub returns-clause-running : goal.returns-clause-running
 returns-clause-running g c = keeps_called (returns-clause-replied g c).made

@@ -18,18 +18,18 @@ box g c = rw (stays g c) refl
 
 pub invariant_of-self-2 : goal.invariant_of-self-2
 invariant_of-self-2 g c =
-    let m = sent_moves c.self.invariant.kept c.args.who c.args.call c.requires.sends (may g c) (rw c.in_ok-again.ensures.ok at c.in_ok-answer.ensures.ok) in
+    let m = sent_moves c.self.invariant.kept c.args.who c.args.call c.requires.sends (may g c) c.in_ok-answer.ensures.ok in
     rw (c.push.ensures, c.in_ok-reserve.ensures.ok)
-    (core_called c.self.invariant c.args.who c.args.call m c.self.inside.spare (box g c) _ _ (rw c.in_ok-again.ensures.ok at c.in_ok-answer.ensures.answer.is_shown) (senders_take_none c.args.call c.requires.sends) (
+    (core_called c.self.invariant c.args.who c.args.call m c.self.inside.spare (box g c) _ _ c.in_ok-answer.ensures.answer.is_shown (senders_take_none c.args.call c.requires.sends) (
       omega (arith, c.in_ok-answer.ensures.left, c.in_ok-places.ensures, most_reclaims c.call-2.new.self.phase),
       rw c.in_ok-reserve.ensures.ok at c.in_ok-reserve.ensures.fits,
     ))
 
 pub returns-clause-replied : goal.returns-clause-replied
 returns-clause-replied g c =
-    let m = sent_moves c.self.invariant.kept c.args.who c.args.call c.requires.sends (may g c) (rw c.in_ok-again.ensures.ok at c.in_ok-answer.ensures.ok) in
+    let m = sent_moves c.self.invariant.kept c.args.who c.args.call c.requires.sends (may g c) c.in_ok-answer.ensures.ok in
     rw (← c.self.view_is, c.push.ensures, c.in_ok-reserve.ensures.ok)
-    (replied c.self.invariant c.args.who c.args.call m c.self.inside.spare (box g c) _ _ _ _ c.in_ok-answer.ensures.answer.is_place (rw c.in_ok-again.ensures.ok at c.in_ok-answer.ensures.answer.is_exception) (rw c.place.ensures at c.promise-promise.ensures) (rw (stays g c) refl) (rw c.requires.sends (omega arith)))
+    (replied c.self.invariant c.args.who c.args.call m c.self.inside.spare (box g c) _ _ _ _ c.in_ok-answer.ensures.answer.is_place c.in_ok-answer.ensures.answer.is_exception (rw c.place.ensures at c.promise-promise.ensures) (rw (stays g c) refl) (rw c.requires.sends (omega arith)))
 
 pub returns-clause-running : goal.returns-clause-running
 returns-clause-running g c = keeps_called (returns-clause-replied g c).made

@@ -6,4 +6,4 @@ use Rattle.codec_follow.proofs.follower.Follower.call.Goals as goal
 pub returns-clause-follows : goal.returns-clause-follows
 returns-clause-follows c =
     λ who. rw (← c.self.view_is)
-    (call_follows who c.args.call.now c.in_ok-copy.field-0 _ _ _ _ c.in_ok-copy.ensures.ok (search rules) (ap (λ (x : Shown). Some x) (c.in_ok-shown.ensures ∙ c.in_ok-answer.ensures.answer.is_shown)) c.in_ok-answer.ensures.ok (search rules))
+    (call_follows who c.args.call.now _ _ _ _ (search rules) (ap (λ (x : Shown). Some x) (c.in_ok-shown.ensures ∙ c.in_ok-answer.ensures.answer.is_shown)) c.in_ok-answer.ensures.ok (search rules))

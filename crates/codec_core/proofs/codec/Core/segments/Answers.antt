@@ -1,5 +1,5 @@
 use Rattle.codec_core.proofs.Steps.{state_is}
-use Rattle.codec_core.proofs.codec.Core.history.Goals as goal
+use Rattle.codec_core.proofs.codec.Core.segments.Goals as goal
 
 pub returns-clause-facts : goal.returns-clause-facts
 returns-clause-facts g c =

@@ -1,0 +1,44 @@
+use Rattle.std.proofs.Common.{ℕ, List, ◌≡◌, ◌<◌, ◌∷◌, [], ◌++◌, ◌∙◌, length, Option, Some, None, refl, ap, sym, subst}
+use Rattle.seat_lock.specs.Own.{inside_of, number_of}
+use Rattle.seat_lock.specs.Passages.{passage_of}
+use Rattle.codec_logs.specs.Logs.{acquires_of}
+use Rattle.shared_codec.specs.declared.codec.Locked.{Locked}
+use Rattle.shared_codec.specs.Shared.{Shared}
+use Rattle.std.specs.Prelude.{IfOk}
+use Rattle.wc_base.specs.declared.seat.Passage.TheVariants.{Look}
+use Rattle.codec_model.specs.Replay.{State}
+use Rattle.codec_core.specs.Codec.{Codec, state_at}
+use Rattle.codec_logs.specs.Logs.{history_of}
+use Rattle.shared_codec.specs.Shared.{state_in}
+use Rattle.shared_codec.specs.Takes.{NextIs}
+use Rattle.shared_codec.proofs.Stands.{StandsAt, passes_in, stands_look, keeps_passage}
+use Rattle.shared_codec.proofs.Gave.{saw}
+use Rattle.shared_codec.proofs.Taken.{next_at}
+use Rattle.shared_codec.proofs.codec.SharedCodec.next_output.Goals as goal
+
+pub leave-requires-clause-log : goal.leave-requires-clause-log
+leave-requires-clause-log g c =
+    let s : Shared = record { id = c.self.inside.lock.id; codec = c.self.inside.lock.about.codec; opening = c.self.inside.lock.about.opening; calls = c.self.inside.lock.about.calls; pool = c.self.inside.lock.about.pool.value; slots = c.self.inside.lock.about.slots.value.id } in
+    let e = c.enter-held.ensures.log in
+    let st : StandsAt s c.state.result.now.core e.log = subst (λ (x : Locked _). StandsAt s x.core e.log) (sym c.state.ensures.value) e.stands in
+    record {
+      log = e.log;
+      inside = inside_of e.log _ _ e.goes_in;
+      stands = stands_look s.codec s.opening s.calls s.pool s.slots _ c.state.result.now.core c.state.result.now.core e.log st refl st.held;
+      has_claim = tt;
+    }
+
+pub returns-clause-next : goal.returns-clause-next
+returns-clause-next g c =
+    let s : Shared = record { id = c.self.inside.lock.id; codec = c.self.inside.lock.about.codec; opening = c.self.inside.lock.about.opening; calls = c.self.inside.lock.about.calls; pool = c.self.inside.lock.about.pool.value; slots = c.self.inside.lock.about.slots.value.id } in
+    let e = c.enter-held.ensures.log in
+    let st : StandsAt s c.state.result.now.core e.log = subst (λ (x : Locked _). StandsAt s x.core e.log) (sym c.state.ensures.value) e.stands in
+    let passes = passes_in _ _ Look c.args.seat.now c.enter-held.new.seat c.leave.new.seat e c.leave.ensures.log in
+    rw (← c.self.view_is) (saw s (λ log. IfOk c.next_in-next.result (NextIs s.opening (history_of log) (state_in s log).control)) Look c.args.seat.now c.leave.new.seat passes refl c.state.result.now.core st
+    (next_at s c.state.result.now.core _ e.log c.next_in-next.result st c.core.ensures c.next_in-next.ensures))
+
+pub returns-clause-kept : goal.returns-clause-kept
+returns-clause-kept g c =
+    let e = c.enter-held.ensures.log in
+    let passes = passes_in _ _ Look c.args.seat.now c.enter-held.new.seat c.leave.new.seat e c.leave.ensures.log in
+    keeps_passage c.args.self.now.id Look c.args.seat.now c.leave.new.seat passes c.requires (c.leave.ensures.same.0 ∙ c.enter-held.ensures.seat.0, c.leave.ensures.same.1 ∙ c.enter-held.ensures.seat.1)

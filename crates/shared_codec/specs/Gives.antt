@@ -1,0 +1,43 @@
+-- What calls of the locked codec give, inside their passage.
+use Rattle.std.specs.Prelude.{ℕ, ◌≡◌, true, false, List, [], ◌∷◌, ◌++◌, length, map, Option, Some, None, Result, Ok, Err}
+use Rattle.atomic_table.specs.Seated.{TableId}
+use Rattle.wc_base.specs.declared.error.NoMemory.{NoMemory}
+use Rattle.wc_base.specs.declared.media.Samples.{Samples}
+use Rattle.wc_base.specs.declared.who.Who.{Who}
+use Rattle.wc_base.specs.declared.seat.View.{View}
+use Rattle.wc_pool.specs.declared.entry.PoolEntry.{PoolEntry}
+use Rattle.wc_pool.specs.declared.reference.MediaRef.{MediaRef}
+use Rattle.codec_model.specs.declared.entry.{Call.Call, Handed.Handed}
+use Rattle.codec_model.specs.declared.entry.Entry.TheVariants as entry
+use Rattle.codec_model.specs.declared.entry.Call.TheVariants as call
+use Rattle.codec_model.specs.Control.{may_take}
+use Rattle.codec_model.specs.Held.{lets_go}
+use Rattle.codec_model.specs.Replay.{sends, is_configured}
+use Rattle.codec_core.specs.Codec.{Codec, state_at, Replied}
+use Rattle.codec_core.specs.Owning.{GoesBack}
+use Rattle.codec_media.specs.Holding.{Holding, ReplyValue, pair_of, own_reply, media_gone, media_left}
+use Rattle.shared_pool.specs.Refs.{AreOf}
+
+-- a call with what it brings
+pub record Calls (old new : Holding) (who : Who) (x : Call) (r : ReplyValue) (brought : List MediaRef) : Type 0 where
+  pub replied : Replied old.codec new.codec who x (own_reply r)
+  pub lets : GoesBack new.codec r.place r.coder
+  pub gone : r.media ≡ media_gone who x old
+  pub pairs : map pair_of r.media ≡ lets_go (entry.Call who x) (state_at old.codec)
+  pub waiting : new.waiting ≡ media_left who x old ++ brought
+  pub working : new.working ≡ old.working
+
+-- a call that brings nothing; memory is wanted of one that sends no message only where no place is left
+abbrev pub CallGives : Holding → Holding → Who → Call → Result ReplyValue NoMemory → Type 0
+CallGives old new who x (Ok r) = Calls old new who x r []
+CallGives old new who x (Err e) = (new ≡ old) × (sends x ≡ false → old.codec.spare ≡ 0)
+
+-- what a take answers: it lets nothing go
+abbrev pub taken_at : ℕ → ReplyValue
+taken_at place = record { place = place; exception = None; promise = None; media = []; coder = None }
+
+-- a take of the output of this number, or none where it is not the next one
+abbrev pub TakeGives : Holding → Holding → Who → ℕ → Result (Option ℕ) NoMemory → Type 0
+TakeGives old new who number (Ok (Some place)) = Calls old new who (call.Take number) (taken_at place) []
+TakeGives old new who number (Ok None) = (may_take number (state_at old.codec).control ≡ false) × (new ≡ old)
+TakeGives old new who number (Err e) = (new ≡ old) × (old.codec.spare ≡ 0)

@@ -1,0 +1,11 @@
+pub mod Dues
+pub mod DueLaws
+pub mod Keeps
+pub mod Shared
+pub mod Settles
+pub mod Jobs
+pub mod Calls
+pub mod Gives
+pub mod Looks
+pub mod Takes
+pub mod Workers

@@ -1,0 +1,13 @@
+//! A codec behind a lock: threads call it, and do its work, each through a seat of its own. What each call answers is what the
+//! plain codec answers at that point of one legal history.
+#![tactic(auto)]
+
+mod calls;
+mod codec;
+mod looks;
+mod passage;
+mod takes;
+mod workers;
+
+pub use codec::{About, CodecSeat, Locked, SharedCodec};
+pub use takes::NextOutput;

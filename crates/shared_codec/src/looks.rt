@@ -1,0 +1,48 @@
+// Calls that only look at a shared codec.
+ghost use Rattle.seat_lock.specs.Seats.{IsIdleAt};
+ghost use Rattle.shared_codec.specs.Keeps.{Keeps};
+ghost use Rattle.shared_codec.specs.Looks.{LookTells, EndTells, ProgressTells};
+
+use crate::codec::{CodecSeat, SharedCodec};
+use codec_model::{CodecState, PromiseState};
+use coder_api::Coder;
+use seat_lock::Passage;
+use std::sync::Wait;
+
+impl<C: Coder> SharedCodec<C> {
+    /// The number of entries, the state, and the number of coded messages in the queue.
+    pub fn look<R: Wait>(&self, rt: &R, seat: &mut CodecSeat<C>) -> (u64, CodecState, u64)
+        requires { IsIdleAt self.now.id seat.old }
+        ensures kept { Keeps self.now.id seat.old seat.new }
+        ensures look { LookTells self.now result seat.old seat.new }
+    {
+        let mut held = self.lock.enter(rt, seat);
+        let seen = held.state().core.core().look();
+        self.lock.leave(seat, held, Passage::Look);
+        seen
+    }
+
+    /// What became of the promise of a flush, by its entry's place.
+    pub fn end_of<R: Wait>(&self, rt: &R, seat: &mut CodecSeat<C>, promise: u64) -> PromiseState
+        requires { IsIdleAt self.now.id seat.old }
+        ensures kept { Keeps self.now.id seat.old seat.new }
+        ensures end { EndTells self.now promise result seat.old seat.new }
+    {
+        let mut held = self.lock.enter(rt, seat);
+        let end = held.state().core.core().end_of(promise);
+        self.lock.leave(seat, held, Passage::Look);
+        end
+    }
+
+    /// The moment when the last item of this epoch ended, of a configured codec.
+    pub fn progress<R: Wait>(&self, rt: &R, seat: &mut CodecSeat<C>) -> Option<u64>
+        requires { IsIdleAt self.now.id seat.old }
+        ensures kept { Keeps self.now.id seat.old seat.new }
+        ensures progress { ProgressTells self.now result seat.old seat.new }
+    {
+        let mut held = self.lock.enter(rt, seat);
+        let moment = held.state().core.core().progress();
+        self.lock.leave(seat, held, Passage::Look);
+        moment
+    }
+}
