@@ -1,8 +1,12 @@
-// All codecs.
+// All codecs, and their coders.
 ghost use Rattle.std.specs.Prelude.{Contains};
 ghost use Rattle.wc_config.specs.declared.codec.CodecId.{CodecId};
 
-use wc_config::CodecId;
+use g711::Law;
+use sample_coder::Coding;
+use sample_conversion::SampleSize;
+use wc_base::PictureFormat;
+use wc_config::{CodecId, Role};
 
 static CODECS: [CodecId; 11] = [
     CodecId::PcmU8,
@@ -24,3 +28,76 @@ pub fn all_codecs() -> &'static [CodecId; 11]
 {
     &CODECS
 }
+
+/// A kind of coder.
+#[derive(Clone, Copy)]
+pub enum CoderKind {
+    Samples(Coding),
+    FlacDecoder,
+    FlacEncoder,
+    RawVideo(PictureFormat),
+}
+
+/// The coder of a role and a codec: each codec has an arm here. Only encoders of raw video have none, since no config asks
+/// for one.
+pub fn kind_of(role: Role, codec: CodecId) -> Option<CoderKind> {
+    match codec {
+        CodecId::PcmU8 => Some(CoderKind::Samples(Coding::Pcm(SampleSize::One))),
+        CodecId::PcmS16 => Some(CoderKind::Samples(Coding::Pcm(SampleSize::Two))),
+        CodecId::PcmS24 => Some(CoderKind::Samples(Coding::Pcm(SampleSize::Three))),
+        CodecId::PcmS32 => Some(CoderKind::Samples(Coding::Pcm(SampleSize::Four))),
+        CodecId::Alaw => Some(CoderKind::Samples(Coding::G711(Law::Alaw))),
+        CodecId::Ulaw => Some(CoderKind::Samples(Coding::G711(Law::Ulaw))),
+        CodecId::Flac => match role {
+            Role::Decode => Some(CoderKind::FlacDecoder),
+            Role::Encode => Some(CoderKind::FlacEncoder),
+        },
+        CodecId::RawI420 => raw_video(role, PictureFormat::I420),
+        CodecId::RawI422 => raw_video(role, PictureFormat::I422),
+        CodecId::RawI444 => raw_video(role, PictureFormat::I444),
+        CodecId::RawNv12 => raw_video(role, PictureFormat::Nv12),
+    }
+}
+
+// Raw video is decoded alone.
+fn raw_video(role: Role, format: PictureFormat) -> Option<CoderKind> {
+    match role {
+        Role::Decode => Some(CoderKind::RawVideo(format)),
+        Role::Encode => None,
+    }
+}
+
+/// A new box of a kind of coder; the last words are carried out where memory runs out. It is no function: of a boxed coder
+/// that a function handed out, nothing could be told.
+macro_rules! coder_box {
+    ($alloc:expr, $role:expr, $kind:expr, $stop:expr) => {
+        match $kind {
+            $crate::codecs::CoderKind::Samples(coding) => {
+                match Box::new($alloc, sample_coder::SampleCoder::new($role, coding)) {
+                    Ok(coder) => coder_api::CoderBox::of(coder),
+                    Err(_) => $stop,
+                }
+            }
+            $crate::codecs::CoderKind::FlacDecoder => {
+                match Box::new($alloc, flac_decode::FlacDecoder::new($alloc)) {
+                    Ok(coder) => coder_api::CoderBox::of(coder),
+                    Err(_) => $stop,
+                }
+            }
+            $crate::codecs::CoderKind::FlacEncoder => {
+                match Box::new($alloc, flac_encode::FlacEncoder::new()) {
+                    Ok(coder) => coder_api::CoderBox::of(coder),
+                    Err(_) => $stop,
+                }
+            }
+            $crate::codecs::CoderKind::RawVideo(format) => {
+                match Box::new($alloc, raw_video::RawVideo::new(format)) {
+                    Ok(coder) => coder_api::CoderBox::of(coder),
+                    Err(_) => $stop,
+                }
+            }
+        }
+    };
+}
+
+pub(crate) use coder_box;

@@ -34,62 +34,17 @@ mod video_rows;
 
 pub use calls::top;
 use calls::want_memory;
-use codecs::all_codecs;
-use coder_api::CoderBox;
-use flac_decode::FlacDecoder;
-use flac_encode::FlacEncoder;
-use g711::Law;
-use raw_video::RawVideo;
+use codecs::{all_codecs, coder_box, kind_of};
 pub use refusal::Refusal;
-use sample_coder::{Coding, SampleCoder};
-use sample_conversion::SampleSize;
 use std::alloc::Global;
 use std::process::ExitCode;
 use std::rt::Env;
 use std::{env, io};
-use wc_base::{NoMemory, Output, PictureFormat, Sink, SystemFiles};
-use wc_config::{CodecId, Role};
+use wc_base::{NoMemory, Output, Sink, SystemFiles};
+use wc_config::Role;
 
 // How many boxes of each coder there are.
 const BOXES: u32 = 8;
-
-// A kind of coder.
-#[derive(Clone, Copy)]
-enum CoderKind {
-    Samples(Coding),
-    FlacDecoder,
-    FlacEncoder,
-    RawVideo(PictureFormat),
-}
-
-// The coder of a role and a codec: each codec has an arm here. Only encoders of raw video have none, since no config asks
-// for one.
-fn kind_of(role: Role, codec: CodecId) -> Option<CoderKind> {
-    match codec {
-        CodecId::PcmU8 => Some(CoderKind::Samples(Coding::Pcm(SampleSize::One))),
-        CodecId::PcmS16 => Some(CoderKind::Samples(Coding::Pcm(SampleSize::Two))),
-        CodecId::PcmS24 => Some(CoderKind::Samples(Coding::Pcm(SampleSize::Three))),
-        CodecId::PcmS32 => Some(CoderKind::Samples(Coding::Pcm(SampleSize::Four))),
-        CodecId::Alaw => Some(CoderKind::Samples(Coding::G711(Law::Alaw))),
-        CodecId::Ulaw => Some(CoderKind::Samples(Coding::G711(Law::Ulaw))),
-        CodecId::Flac => match role {
-            Role::Decode => Some(CoderKind::FlacDecoder),
-            Role::Encode => Some(CoderKind::FlacEncoder),
-        },
-        CodecId::RawI420 => raw_video(role, PictureFormat::I420),
-        CodecId::RawI422 => raw_video(role, PictureFormat::I422),
-        CodecId::RawI444 => raw_video(role, PictureFormat::I444),
-        CodecId::RawNv12 => raw_video(role, PictureFormat::Nv12),
-    }
-}
-
-// Raw video is decoded alone.
-fn raw_video(role: Role, format: PictureFormat) -> Option<CoderKind> {
-    match role {
-        Role::Decode => Some(CoderKind::RawVideo(format)),
-        Role::Encode => None,
-    }
-}
 
 fn words(rt: &(impl Env + Alloc<A = Global>)) -> io::Result<Vec<String>> {
     let mut words = Vec::new(rt.alloc());
@@ -116,29 +71,10 @@ fn carry_out<S: Sink>(rt: &HostRuntime, words: &[String], sink: &mut S) -> u8 {
     for role in [Role::Decode, Role::Encode] {
         for _ in 0..BOXES {
             for codec in all_codecs() {
-                let coder = match kind_of(role, *codec) {
-                    Some(CoderKind::Samples(coding)) => {
-                        match Box::new(alloc, SampleCoder::new(role, coding)) {
-                            Ok(coder) => CoderBox::of(coder),
-                            Err(_) => return want_memory(sink),
-                        }
-                    }
-                    Some(CoderKind::FlacDecoder) => match Box::new(alloc, FlacDecoder::new(alloc)) {
-                        Ok(coder) => CoderBox::of(coder),
-                        Err(_) => return want_memory(sink),
-                    },
-                    Some(CoderKind::FlacEncoder) => match Box::new(alloc, FlacEncoder::new()) {
-                        Ok(coder) => CoderBox::of(coder),
-                        Err(_) => return want_memory(sink),
-                    },
-                    Some(CoderKind::RawVideo(format)) => {
-                        match Box::new(alloc, RawVideo::new(format)) {
-                            Ok(coder) => CoderBox::of(coder),
-                            Err(_) => return want_memory(sink),
-                        }
-                    }
-                    None => continue,
+                let Some(kind) = kind_of(role, *codec) else {
+                    continue;
                 };
+                let coder = coder_box!(alloc, role, kind, return want_memory(sink));
                 if coders.push(coder).is_err() {
                     return want_memory(sink);
                 }

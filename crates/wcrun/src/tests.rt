@@ -1,16 +1,10 @@
 // Whole calls on files and sinks in memory.
+use crate::codecs::{all_codecs, coder_box, kind_of};
 use crate::top;
-use coder_api::CoderBox;
-use flac_decode::FlacDecoder;
-use flac_encode::FlacEncoder;
-use g711::Law;
-use raw_video::RawVideo;
-use sample_coder::{Coding, SampleCoder};
-use sample_conversion::SampleSize;
 use std::alloc::Global;
 use std::process::Abort;
 use std::test::Fail;
-use wc_base::{MemFiles, MemSink, PictureFormat};
+use wc_base::{MemFiles, MemSink, NoMemory};
 use wc_config::Role;
 
 const ORDINARY: &str =
@@ -138,24 +132,12 @@ pub(crate) fn call_on(
     let mut sink = MemSink::open(alloc, 131_072, writes)?;
     let mut coders = Vec::new(alloc);
     for role in [Role::Decode, Role::Encode] {
-        for coding in [
-            Coding::Pcm(SampleSize::One),
-            Coding::Pcm(SampleSize::Two),
-            Coding::G711(Law::Ulaw),
-        ] {
-            let coder = Box::new(alloc, SampleCoder::new(role, coding))?;
-            coders.push(CoderBox::of(coder))?;
+        for codec in all_codecs() {
+            if let Some(kind) = kind_of(role, *codec) {
+                let coder = coder_box!(alloc, role, kind, Err(NoMemory)?);
+                coders.push(coder)?;
+            }
         }
-    }
-    coders.push(CoderBox::of(Box::new(alloc, FlacDecoder::new(alloc))?))?;
-    coders.push(CoderBox::of(Box::new(alloc, FlacEncoder::new())?))?;
-    for format in [
-        PictureFormat::I420,
-        PictureFormat::I422,
-        PictureFormat::I444,
-        PictureFormat::Nv12,
-    ] {
-        coders.push(CoderBox::of(Box::new(alloc, RawVideo::new(format))?))?;
     }
     let status = top(alloc, &given, &mut files, &mut sink, coders);
     Ok((status, sink))
