@@ -58,7 +58,7 @@ media_stops content s fb fc bb bc e h = elim h [ ]
 
 -- each chunk that a step takes is there
 pub chunk_files_read : (content : Option Holding) (s : ScriptData) (media : List (List Chunk)) → IfSome content (λ files. GivesMedia files s (Ok media)) → missing_in s media ≡ None → IfSome content (λ files. Becomes files (Ok s) (Ok (Runs (record { script = s; media = media }))))
-chunk_files_read content s media h none = told_more _ _ _ content (λ files g. (Ok media, (g, ap (if_there s media) (sym none)))) h
+chunk_files_read content s media h none = told_more _ _ _ content (λ files g. (Ok media, g, ap (if_there s media) (sym none))) h
 
 -- ---- a script that can not be replayed
 

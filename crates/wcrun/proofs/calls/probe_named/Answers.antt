@@ -1,15 +1,17 @@
-use Rattle.std.proofs.Common.{◌≡◌, inr}
+use Rattle.std.proofs.Common.{◌≡◌, inr, ℕ, List, sym, subst}
 use Rattle.std.specs.Prelude.{string_bytes}
 use Rattle.chunk_files.specs.declared.fault.Stop.{Stop}
 use Rattle.wcrun.specs.{Outcome.Tells, Words.to_probe}
-use Rattle.wcrun.specs.Headline.{Reading, reading, writing}
+use Rattle.wcrun.specs.Headline.{Reading, reading, writing, IsProbe}
 use Rattle.wcrun.proofs.Headlines.{headline_of_whole, headline_of_fault, headline_of_memory, stop_comes}
 use Rattle.wcrun.proofs.Outcomes.{decides_whole, complete_whole, decides_fault, complete_fault, decides_memory, complete_memory}
 use Rattle.wcrun.proofs.Probing.{probe_comes}
 use Rattle.wcrun.proofs.calls.probe_named.Goals as goal
 
 pub returns-in-Ok-clause-headline : goal.returns-in-Ok-clause-headline
-returns-in-Ok-clause-headline g c ids = headline_of_whole _ ids _ _ (inr c.in-Ok.ensures.line) c.tell.ensures
+returns-in-Ok-clause-headline g c ids =
+    headline_of_whole _ ids _ c.as_str.result.now
+    (inr (subst (λ (t : List ℕ). IsProbe (reading (to_probe c.args.name.now) (g.F.Files.content c.args.files.now) (g.F.Files.faults c.args.files.now) (g.F.Files.faults c.probe.new.files) (g.F.Files.bytes_read c.args.files.now) (g.F.Files.bytes_read c.probe.new.files) (g.F.Files.failed_names c.args.files.now) (g.F.Files.failed_names c.probe.new.files)) t) (sym c.as_str.ensures.value) c.in-Ok.ensures.line)) c.tell.ensures
 
 pub returns-in-Ok-clause-decided : goal.returns-in-Ok-clause-decided
 returns-in-Ok-clause-decided g c =
