@@ -170,6 +170,7 @@ fn ordinary_run(rt: HostRuntime) -> Result<(), Fail> {
     assert_eq!(rt; (entries.len(), showings.len()), (11, 11));
     let segment = showings.into_segments().pop().expect(&rt, "a segment");
     let shown = shown_list(alloc, segment.into_items())?;
+    assert_eq!(rt; shown.len(), 11);
     assert_eq!(rt; shown[8].turn, Some(TurnWord::Flushed));
     assert_eq!(rt; shown[8].events.as_slice(), [Event::Resolve(1)].as_slice());
     assert_eq!(rt;

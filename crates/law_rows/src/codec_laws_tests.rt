@@ -42,23 +42,16 @@ fn configure(alloc: Global, step: u32) -> Result<Entry, Fail>
     Ok(called(step, Call::Configure(Config::AudioDecoder(config))))
 }
 
-fn closing(alloc: Global) -> Result<Vec<Entry>, Fail>
-    ensures { IfOk result (λ v. v.items ≡ the_closing) }
+fn closing(alloc: Global) -> Result<SegmentedVec<Entry>, Fail>
+    ensures { IfOk result (λ l. l.items ≡ the_closing) }
 {
-    let configure = configure(alloc, 0)?;
-    let flush = called(1, Call::Flush);
-    let second = called(2, Call::Flush);
-    let close = called(3, Call::Close);
-    let again = called(4, Call::Close);
-    let refused = called(5, Call::Flush);
-    Ok(vec![in alloc; configure, flush, second, close, again, refused]?)
-}
-
-fn in_segments(alloc: Global, entries: Vec<Entry>) -> Result<SegmentedVec<Entry>, Fail> {
     let mut list = SegmentedVec::new(alloc);
-    for entry in entries {
-        list.try_push(entry)?;
-    }
+    list.try_push(configure(alloc, 0)?)?;
+    list.try_push(called(1, Call::Flush))?;
+    list.try_push(called(2, Call::Flush))?;
+    list.try_push(called(3, Call::Close))?;
+    list.try_push(called(4, Call::Close))?;
+    list.try_push(called(5, Call::Flush))?;
     Ok(list)
 }
 
@@ -66,7 +59,7 @@ fn in_segments(alloc: Global, entries: Vec<Entry>) -> Result<SegmentedVec<Entry>
 fn two_flushes_then_a_close(rt: HostRuntime) -> Result<(), Fail> {
     closing_run();
     let alloc = rt.alloc();
-    let history = in_segments(alloc, closing(alloc)?)?;
+    let history = closing(alloc)?;
     let history = history.segments();
     let end = promise_end(alloc, opening(4), history, 1);
     assert_eq!(rt; end, Ok(Some((3, PromiseState::Rejected(DomError::Abort)))));
