@@ -10,6 +10,7 @@ pub mod HearLaws
 pub mod SameLaws
 pub mod PromiseLaws
 pub mod EndLaws
+pub mod ContentLaws
 pub mod AlikeLaws
 pub mod FlushLaws
 pub mod RejectLaws
