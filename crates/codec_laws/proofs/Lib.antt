@@ -17,3 +17,4 @@ pub mod RejectLaws
 pub mod OnlyLaws
 pub mod SeenLaws
 pub mod BookLaws
+pub mod EqualLaws

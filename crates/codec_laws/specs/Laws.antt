@@ -138,11 +138,15 @@ abbrev pub is_calm : List Sight → Bool
 is_calm [] = true
 is_calm (x ∷ xs) = is_none x.removes && is_calm xs
 
+-- how the promise of the entry at this place ends, if it is a flush
+abbrev pub flush_end : ℕ → Entry → List Sight → List PromiseState
+flush_end place (entry.Call who call.Flush) xs = unwrap_or (option_map (λ (e : ℕ × PromiseState). e.1) (end_from place 0 xs)) promise.Pending ∷ []
+flush_end place e xs = []
+
 -- the ends of flushes, one after another
 abbrev pub flush_ends_from : ℕ → List Entry → List Sight → List PromiseState
 flush_ends_from place [] xs = []
-flush_ends_from place (entry.Call who call.Flush ∷ es) xs = unwrap_or (option_map (λ (e : ℕ × PromiseState). e.1) (end_from place 0 xs)) promise.Pending ∷ flush_ends_from (place + 1) es xs
-flush_ends_from place (e ∷ es) xs = flush_ends_from (place + 1) es xs
+flush_ends_from place (e ∷ es) xs = flush_end place e xs ++ flush_ends_from (place + 1) es xs
 
 abbrev pub flush_ends : Opening → List Entry → List PromiseState
 flush_ends o h = flush_ends_from 0 h (sights o h)
