@@ -15,6 +15,8 @@ pub mod AlikeLaws
 pub mod FlushLaws
 pub mod RejectLaws
 pub mod OnlyLaws
+pub mod LineLaws
+pub mod ResolveLaws
 pub mod SeenLaws
 pub mod BookLaws
 pub mod EqualLaws

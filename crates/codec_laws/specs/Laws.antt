@@ -18,9 +18,9 @@ use Rattle.codec_model.specs.Replay.{State, answers_to, replay, IsLegal}
 use Rattle.codec_model.specs.Shown.{shown, outputs_of}
 use Rattle.codec_model.specs.Facts.{IsQuiet}
 use Rattle.codec_laws.specs.declared.sight.Sight.{Sight}
-use Rattle.codec_laws.specs.declared.source.Output.{Output}
+use Rattle.codec_laws.specs.declared.source.{Source.Source, Output.Output}
 use Rattle.codec_laws.specs.Sights.{sights, falls_at, dequeues_at, removes_at, asks_at, NoneRemoves}
-use Rattle.codec_laws.specs.Sources.{outputs, own_ends, ends_in, end_at, end_from}
+use Rattle.codec_laws.specs.Sources.{outputs, given, own_ends, ends_in, end_at, end_from}
 use Rattle.codec_laws.specs.Contents.{configuration_at, bare}
 
 -- ---- nothing old
@@ -68,6 +68,18 @@ IsRejected xs p t error = IsRefusedThere xs p t error ⊎ IsRemovedThere xs p t 
 -- a promise is rejected at its own place, or by the first removal after it
 abbrev pub RejectedOnly : Type 0
 RejectedOnly = (o : Opening) (h : List Entry) → IsLegal o h → (p t : ℕ) (error : DomError) → end_from p 0 (sights o h) ≡ Some (t, promise.Rejected error) → IsRejected (sights o h) p t error
+
+-- an output is shown there or before
+pub record IsShownBy (ys : List Output) (y : Source) (turn : ℕ) : Type 0 where
+  pub number : ℕ
+  pub output : Output
+  pub shown : slice_get ys number ≡ Some output
+  pub same : output.source ≡ y
+  pub before : output.turn ≤ turn
+
+-- Where a promise is resolved, all is shown that calls before its flush gave, but for what a removal took.
+abbrev pub ResolvedLast : Type 0
+ResolvedLast = (o : Opening) (h : List Entry) → IsLegal o h → (p t n : ℕ) (y : Source) → end_from p 0 (sights o h) ≡ Some (t, promise.Resolved) → slice_get (given (sights o h)) n ≡ Some y → y.call < p → NoneRemoves (sights o h) y.call p → IsShownBy (outputs (sights o h)) y t
 
 -- ---- order
 

@@ -1,5 +1,5 @@
 // Laws of every legal history.
-ghost use Rattle.codec_laws.specs.Laws.{NothingOld, IndexesRise, ContentsAreGiven, RemovalsReject, RejectedOnly, EndsOnce, SizeFalls, SameShown};
+ghost use Rattle.codec_laws.specs.Laws.{NothingOld, IndexesRise, ContentsAreGiven, RemovalsReject, RejectedOnly, EndsOnce, ResolvedLast, SizeFalls, SameShown};
 
 use codec_model::never_stuck;
 
@@ -35,6 +35,12 @@ pub fn rejected_only_by_removals()
 /// Law: a promise ends at most once.
 pub fn promises_end_once()
     ensures { EndsOnce }
+{}
+
+/// Law: a flush is resolved last. Where its promise is resolved, each output that a call before it gave is shown, there or
+/// before, unless a removal stands between that call and the flush.
+pub fn flushes_resolve_last()
+    ensures { ResolvedLast }
 {}
 
 /// Law: between two dequeue events the size falls.
