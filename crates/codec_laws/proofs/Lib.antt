@@ -10,9 +10,13 @@ pub mod HearLaws
 pub mod SameLaws
 pub mod PromiseLaws
 pub mod EndLaws
+pub mod ContentLaws
 pub mod AlikeLaws
 pub mod FlushLaws
 pub mod RejectLaws
 pub mod OnlyLaws
+pub mod LineLaws
+pub mod ResolveLaws
 pub mod SeenLaws
 pub mod BookLaws
+pub mod EqualLaws

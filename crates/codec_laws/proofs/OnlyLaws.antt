@@ -23,7 +23,7 @@ use Rattle.codec_laws.proofs.OldLaws.{opening_course, opening_flow}
 use Rattle.codec_laws.proofs.EndLaws.{legal_state, opening_promises}
 
 -- a promise that has no end has no first one
-none_found : (p n : ℕ) (xs : List Sight) → ends_in p xs ≡ 0 → end_from p n xs ≡ None
+pub none_found : (p n : ℕ) (xs : List Sight) → ends_in p xs ≡ 0 → end_from p n xs ≡ None
 none_found p n [] h = refl
 none_found p n (x ∷ xs) h = rw (none_own p n x.ends (omega (arith, h))) (none_found p (n + 1) xs (omega (arith, h)))
 

@@ -196,11 +196,11 @@ remove_outs y x s is = by_removals (λ y. Outs (fresh x) (accepted y s.control))
 
 -- ---- turns
 
-output_units : (n : ℕ) (us : List media.Unit) → units_in (outputs_from n us) ≡ us
+pub output_units : (n : ℕ) (us : List media.Unit) → units_in (outputs_from n us) ≡ us
 output_units n [] = refl
 output_units n (u ∷ us) = ap (λ (l : List media.Unit). u ∷ l) (output_units (n + 1) us)
 
-flushed_units : (n promise : ℕ) (us : List media.Unit) → units_in (outputs_from n us ++ Event.Resolve promise ∷ []) ≡ us
+pub flushed_units : (n promise : ℕ) (us : List media.Unit) → units_in (outputs_from n us ++ Event.Resolve promise ∷ []) ≡ us
 flushed_units n promise us = units_append (outputs_from n us) (Event.Resolve promise ∷ []) ∙ (append-nil (units_in (outputs_from n us)) ∙ output_units n us)
 
 pub take_and_drop : {X : Type 0} (n : ℕ) (xs : List X) → take n xs ++ drop n xs ≡ xs
@@ -274,7 +274,7 @@ ran_adds epoch number place WorkKind.Coded us b ts none = output_adds us ts _ (d
 ran_adds epoch number place WorkKind.Flush us b ts none = adds_one _ _ us (task_parts_more ts (Task.Flushed place us))
 
 -- the call of the item at work, among the calls
-kinds_at : (past : List Asked) (a : Asked) (rest : List Asked) → slice_get (kinds ((past ++ a ∷ []) ++ rest)) (length past) ≡ Some (a.0, kind_of a.1)
+pub kinds_at : (past : List Asked) (a : Asked) (rest : List Asked) → slice_get (kinds ((past ++ a ∷ []) ++ rest)) (length past) ≡ Some (a.0, kind_of a.1)
 kinds_at [] a rest = refl
 kinds_at (b ∷ past) a rest = kinds_at past a rest
 
@@ -316,13 +316,13 @@ ran_outs x s a us item d f mid number yield adds active h =
     })
 
 -- an item that ran, as its answer has it
-record RanAs (k : WorkKind) (g : Given) (n : ℕ) (e : Ended) : Type 0 where
-  units : List media.Unit
-  answered : answer_to k g ≡ Some units
-  long : n ≡ length units
-  is : Ended.Ran units ≡ e
+pub record RanAs (k : WorkKind) (g : Given) (n : ℕ) (e : Ended) : Type 0 where
+  pub units : List media.Unit
+  pub answered : answer_to k g ≡ Some units
+  pub long : n ≡ length units
+  pub is : Ended.Ran units ≡ e
 
-ran_as : (k : WorkKind) (g : Given) (n : ℕ) (e : Ended) → ended_of k g (Outcome.Ran n) ≡ Some e → RanAs k g n e
+pub ran_as : (k : WorkKind) (g : Given) (n : ℕ) (e : Ended) → ended_of k g (Outcome.Ran n) ≡ Some e → RanAs k g n e
 ran_as k g n e h = by (answer_to k g) refl h
   where
     by : (o : Option (List media.Unit)) → answer_to k g ≡ o → ended_run n o ≡ Some e → RanAs k g n e
@@ -337,14 +337,14 @@ closing_parts r (Ended.NoSlot n) b ts h = task_parts_more ts (Task.Close _) ∙ 
 closing_parts r Ended.NoMemory b ts h = task_parts_more ts (Task.Close _) ∙ append-nil (task_parts ts)
 
 -- what the end of an item leaves
-record Left (r : Running) (e : Ended) (c d : Control) : Type 0 where
-  tasks : d.tasks ≡ with_end r e c.saturated c.tasks
-  active : d.active ≡ c.active
+pub record Left (r : Running) (e : Ended) (c d : Control) : Type 0 where
+  pub tasks : d.tasks ≡ with_end r e c.saturated c.tasks
+  pub active : d.active ≡ c.active
 
-left_now : (r : Running) (e : Ended) (moment : ℕ) (c : Control) → eqb r.epoch c.epoch ≡ true → Left r e c (done_running r e moment (at_next_place c))
+pub left_now : (r : Running) (e : Ended) (moment : ℕ) (c : Control) → eqb r.epoch c.epoch ≡ true → Left r e c (done_running r e moment (at_next_place c))
 left_now r e moment c now = rw now (record { tasks = refl; active = refl })
 
-old_left : (r : Running) (e : Ended) (moment : ℕ) (c : Control) → eqb r.epoch c.epoch ≡ false → (done_running r e moment (at_next_place c)).tasks ≡ c.tasks
+pub old_left : (r : Running) (e : Ended) (moment : ℕ) (c : Control) → eqb r.epoch c.epoch ≡ false → (done_running r e moment (at_next_place c)).tasks ≡ c.tasks
 old_left r e moment c old = rw old refl
 
 old_active : (r : Running) (e : Ended) (moment : ℕ) (c : Control) → eqb r.epoch c.epoch ≡ false → (done_running r e moment (at_next_place c)).active ≡ c.active

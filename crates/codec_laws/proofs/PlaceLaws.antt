@@ -149,7 +149,7 @@ pub rising_high : (low high : ℕ) (qs : List Asked) → Rising low qs high → 
 rising_high low high [] h = h
 rising_high low high (a ∷ qs) h = let k = rising_high (a.0 + 1) high qs h.1 in omega (arith, k, h.0)
 
-rising_front : (low high : ℕ) (qs more : List Asked) → Rising low (qs ++ more) high → Rising low qs high
+pub rising_front : (low high : ℕ) (qs more : List Asked) → Rising low (qs ++ more) high → Rising low qs high
 rising_front low high [] more h = rising_high low high more h
 rising_front low high (a ∷ qs) more h = (h.0, rising_front (a.0 + 1) high qs more h.1)
 
@@ -294,7 +294,7 @@ module _ (whole : List Sight) where
       record { begins = begins; rises = rises; fine = subst (λ (l : List Source). AllByRecursion (Fine since s.control.place) l) (sym o.sources) (epoch_fine since s.control.place x.past CodecState.Unconfigured begins rises there) }
 
   -- what waits to be shown
-  waits_fine : (since : ℕ) (x : Course) (s : State) → Flow x s → Outs x s.control → Calls since x s → AllByRecursion (Fine since s.control.place) x.book.waiting
+  pub waits_fine : (since : ℕ) (x : Course) (s : State) → Flow x s → Outs x s.control → Calls since x s → AllByRecursion (Fine since s.control.place) x.book.waiting
   waits_fine since x s f o c = all_back (Fine since s.control.place) x.sources x.book.waiting (epoch_here since x s f o c).fine
 
   own_all : (since place : ℕ) (ys : List Source) → ((k : ℕ) → since ≤ k → k < place → removes_at whole k ≡ None) → AllByRecursion (Fine since place) ys → AllByRecursion (IsOwn whole) (shown_by place ys)

@@ -1,7 +1,9 @@
 -- The laws by places, of every legal history (our choice; W3C WebCodecs says them by its algorithms alone).
-use Rattle.std.specs.Prelude.{ℕ, ◌≡◌, ◌≤◌, ◌<◌, ◌+◌, ◌&&◌, ◌⊎◌, Bool, true, List, [], ◌∷◌, ◌++◌, take, slice_get, Some, None, is_some, is_none, unwrap_or, option_map, if◌then◌else◌, ◌==◌}
+use Rattle.std.specs.Prelude.{ℕ, ◌≡◌, ◌≤◌, ◌<◌, ◌+◌, ◌&&◌, ◌⊎◌, Bool, true, List, [], ◌∷◌, ◌++◌, length, take, slice_get, Some, None, is_some, is_none, unwrap_or, option_map, if◌then◌else◌, ◌==◌}
 use Rattle.wc_base.specs.declared.error.DomError.{DomError}
 use Rattle.wc_base.specs.declared.error.DomError.TheVariants as dom
+use Rattle.codec_definitions.specs.declared.unit.Unit as media
+use Rattle.codec_definitions.specs.Answers.{units_of}
 use Rattle.codec_model.specs.declared.entry.Opening.{Opening}
 use Rattle.codec_model.specs.declared.entry.Call.{Call}
 use Rattle.codec_model.specs.declared.entry.Call.TheVariants as call
@@ -12,13 +14,14 @@ use Rattle.codec_model.specs.declared.entry.Handed.TheVariants as handed
 use Rattle.codec_model.specs.declared.entry.WorkKind.TheVariants as kind
 use Rattle.codec_model.specs.declared.entry.PromiseState.{PromiseState}
 use Rattle.codec_model.specs.declared.entry.PromiseState.TheVariants as promise
-use Rattle.codec_model.specs.Replay.{State, replay, IsLegal}
+use Rattle.codec_model.specs.Replay.{State, answers_to, replay, IsLegal}
 use Rattle.codec_model.specs.Shown.{shown, outputs_of}
 use Rattle.codec_model.specs.Facts.{IsQuiet}
 use Rattle.codec_laws.specs.declared.sight.Sight.{Sight}
-use Rattle.codec_laws.specs.declared.source.Output.{Output}
+use Rattle.codec_laws.specs.declared.source.{Source.Source, Output.Output}
 use Rattle.codec_laws.specs.Sights.{sights, falls_at, dequeues_at, removes_at, asks_at, NoneRemoves}
-use Rattle.codec_laws.specs.Sources.{outputs, own_ends, ends_in, end_at, end_from}
+use Rattle.codec_laws.specs.Sources.{outputs, given, own_ends, ends_in, end_at, end_from}
+use Rattle.codec_laws.specs.Contents.{configuration_at, bare}
 
 -- ---- nothing old
 
@@ -66,6 +69,18 @@ IsRejected xs p t error = IsRefusedThere xs p t error ⊎ IsRemovedThere xs p t 
 abbrev pub RejectedOnly : Type 0
 RejectedOnly = (o : Opening) (h : List Entry) → IsLegal o h → (p t : ℕ) (error : DomError) → end_from p 0 (sights o h) ≡ Some (t, promise.Rejected error) → IsRejected (sights o h) p t error
 
+-- an output is shown there or before
+pub record IsShownBy (ys : List Output) (y : Source) (turn : ℕ) : Type 0 where
+  pub number : ℕ
+  pub output : Output
+  pub shown : slice_get ys number ≡ Some output
+  pub same : output.source ≡ y
+  pub before : output.turn ≤ turn
+
+-- Where a promise is resolved, all is shown that calls before its flush gave, but for what a removal took.
+abbrev pub ResolvedLast : Type 0
+ResolvedLast = (o : Opening) (h : List Entry) → IsLegal o h → (p t n : ℕ) (y : Source) → end_from p 0 (sights o h) ≡ Some (t, promise.Resolved) → slice_get (given (sights o h)) n ≡ Some y → y.call < p → NoneRemoves (sights o h) y.call p → IsShownBy (outputs (sights o h)) y t
+
 -- ---- order
 
 -- how many of these outputs are of the configuration that begins at a place
@@ -76,6 +91,24 @@ count_of f (y ∷ ys) = (if y.source.configure == f then 1 else 0) + count_of f 
 -- outputs of one configuration have the indexes 0, 1, 2, .. in the order in which they are shown
 abbrev pub IndexesRise : Type 0
 IndexesRise = (o : Opening) (h : List Entry) → IsLegal o h → (n : ℕ) (y : Output) → slice_get (outputs (sights o h)) n ≡ Some y → y.source.index ≡ count_of y.source.configure (take n (outputs (sights o h)))
+
+-- ---- contents
+
+-- What is shown with this number is, metadata aside, the unit of its index among all that the codec's definition gives for
+-- its configuration, up to the call that gave it.
+pub record IsGiven (o : Opening) (h : List Entry) (n : ℕ) (unit : media.Unit) : Type 0 where
+  pub output : Output
+  pub numbered : slice_get (outputs (sights o h)) n ≡ Some output
+  pub configure : (configuration_at o h output.source.call).place ≡ output.source.configure
+  pub given : option_map bare (slice_get (units_of (answers_to (configuration_at o h output.source.call).given)) output.source.index) ≡ Some (bare unit)
+
+pub record EachIsGiven (o : Opening) (h : List Entry) : Type 0 where
+  pub as_many : length (outputs (sights o h)) ≡ length (outputs_of (shown o h))
+  pub each : (n : ℕ) (unit : media.Unit) → slice_get (outputs_of (shown o h)) n ≡ Some unit → IsGiven o h n unit
+
+-- outputs hold what the codec's definition gives
+abbrev pub ContentsAreGiven : Type 0
+ContentsAreGiven = (o : Opening) (h : List Entry) → IsLegal o h → EachIsGiven o h
 
 -- ---- dequeue
 
@@ -117,11 +150,15 @@ abbrev pub is_calm : List Sight → Bool
 is_calm [] = true
 is_calm (x ∷ xs) = is_none x.removes && is_calm xs
 
+-- how the promise of the entry at this place ends, if it is a flush
+abbrev pub flush_end : ℕ → Entry → List Sight → List PromiseState
+flush_end place (entry.Call who call.Flush) xs = unwrap_or (option_map (λ (e : ℕ × PromiseState). e.1) (end_from place 0 xs)) promise.Pending ∷ []
+flush_end place e xs = []
+
 -- the ends of flushes, one after another
 abbrev pub flush_ends_from : ℕ → List Entry → List Sight → List PromiseState
 flush_ends_from place [] xs = []
-flush_ends_from place (entry.Call who call.Flush ∷ es) xs = unwrap_or (option_map (λ (e : ℕ × PromiseState). e.1) (end_from place 0 xs)) promise.Pending ∷ flush_ends_from (place + 1) es xs
-flush_ends_from place (e ∷ es) xs = flush_ends_from (place + 1) es xs
+flush_ends_from place (e ∷ es) xs = flush_end place e xs ++ flush_ends_from (place + 1) es xs
 
 abbrev pub flush_ends : Opening → List Entry → List PromiseState
 flush_ends o h = flush_ends_from 0 h (sights o h)

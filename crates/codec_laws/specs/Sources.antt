@@ -73,6 +73,18 @@ outputs_from (x ∷ xs) b = outputs_at x b ++ outputs_from xs (book_after x b)
 abbrev pub outputs : List Sight → List Output
 outputs xs = outputs_from xs empty_book
 
+-- what an entry gives that is the end of an item
+abbrev pub given_at : Sight → Book → List Source
+given_at x b = (after_ran x.ran (record b { waiting = [] })).waiting
+
+abbrev pub given_from : List Sight → Book → List Source
+given_from [] b = []
+given_from (x ∷ xs) b = given_at x b ++ given_from xs (book_after x b)
+
+-- where all outputs come from that the items of these entries give, shown or not
+abbrev pub given : List Sight → List Source
+given xs = given_from xs empty_book
+
 -- the first of these ends that is the promise's, at this place
 abbrev pub end_at : ℕ → ℕ → List PromiseEnd → Option (ℕ × PromiseState)
 end_at p place [] = None

@@ -40,7 +40,7 @@ fn end_of(ends: &[PromiseEnd], promise: u64) -> Option<PromiseState>
     None
 }
 
-fn first_end(seen: &[Sight], promise: u64) -> Option<(u64, PromiseState)>
+pub(crate) fn first_end(seen: &[Sight], promise: u64) -> Option<(u64, PromiseState)>
     ensures { result ≡ end_from promise 0 seen.now }
 {
     let mut place = 0;

@@ -1,5 +1,5 @@
 // Laws of every legal history.
-ghost use Rattle.codec_laws.specs.Laws.{NothingOld, IndexesRise, RemovalsReject, RejectedOnly, EndsOnce, SizeFalls, SameShown};
+ghost use Rattle.codec_laws.specs.Laws.{NothingOld, IndexesRise, ContentsAreGiven, RemovalsReject, RejectedOnly, EndsOnce, ResolvedLast, SizeFalls, SameShown};
 
 use codec_model::never_stuck;
 
@@ -12,6 +12,13 @@ pub fn nothing_old()
 /// Law: the outputs of one configuration have the indexes 0, 1, 2 and so on, in the order in which they are shown.
 pub fn indexes_rise()
     ensures { IndexesRise }
+{}
+
+/// Law: outputs hold what the codec's definition gives. Each is, metadata aside, the unit of its index among all that the
+/// definition gives for its configuration: for the chunks or samples and the drains of the accepted calls behind its
+/// configure, up to the call that gave it and with this. As many outputs have a source as are shown.
+pub fn contents_are_given()
+    ensures { ContentsAreGiven }
 {}
 
 /// Law: a flush that is pending at a removal is rejected there, once, with the removal's error.
@@ -28,6 +35,12 @@ pub fn rejected_only_by_removals()
 /// Law: a promise ends at most once.
 pub fn promises_end_once()
     ensures { EndsOnce }
+{}
+
+/// Law: a flush is resolved last. Where its promise is resolved, each output that a call before it gave is shown, there or
+/// before, unless a removal stands between that call and the flush.
+pub fn flushes_resolve_last()
+    ensures { ResolvedLast }
 {}
 
 /// Law: between two dequeue events the size falls.

@@ -12,8 +12,16 @@ use Rattle.codec_model.specs.declared.entry.Entry.{Entry}
 use Rattle.codec_model.specs.declared.entry.Entry.TheVariants as entry
 use Rattle.codec_model.specs.declared.entry.Opening.{Opening}
 use Rattle.wc_config.specs.declared.kind.Kind.TheVariants.{AudioDecoder}
+use Rattle.codec_definitions.specs.declared.unit.Unit as media
+use Rattle.codec_definitions.specs.declared.unit.Unit.TheVariants as unit
+use Rattle.codec_definitions.specs.Answers.{units_of}
+use Rattle.wc_base.specs.declared.media.SampleFormat.TheVariants.{S16}
+use Rattle.codec_model.specs.Replay.{answers_to}
+use Rattle.codec_model.specs.Shown.{shown, outputs_of}
+use Rattle.codec_laws.specs.Laws.{flush_ends}
+use Rattle.codec_laws.specs.Contents.{configuration_at}
 use Rattle.codec_laws.specs.Sights.{sights, falls_at, dequeues_at}
-use Rattle.codec_laws.specs.Sources.{outputs, end_from}
+use Rattle.codec_laws.specs.Sources.{given, outputs, end_from}
 
 abbrev pub four : Opening
 four = record { kind = AudioDecoder; saturation = 4 }
@@ -38,6 +46,22 @@ saturating =
     ∷ entry.Turn ∷ entry.Turn ∷ entry.Turn ∷ entry.Turn ∷ entry.Turn
     ∷ entry.Start 0 3 ∷ entry.Done 0 3 4 (outcome.Ran 1) ∷ entry.Turn ∷ []
 
+-- The same calls where each item starts as soon as it may, and ends and shows what it gave before the next call. The third
+-- chunk has this for its first byte.
+abbrev pub early_with : ℕ → List Entry
+early_with last =
+    made 0 (call.Configure pcm) ∷ entry.Start 0 0 ∷ entry.Done 0 0 1 (outcome.Ran 0) ∷ entry.Turn ∷ entry.Turn
+    ∷ made 1 (call.Decode (sample 1)) ∷ entry.Start 0 1 ∷ entry.Done 0 1 2 (outcome.Ran 1) ∷ entry.Turn ∷ entry.Turn
+    ∷ made 2 (call.Decode (sample 2)) ∷ entry.Start 0 2 ∷ entry.Done 0 2 3 (outcome.Ran 1) ∷ entry.Turn ∷ entry.Turn
+    ∷ made 3 (call.Decode (sample last)) ∷ entry.Start 0 3 ∷ entry.Done 0 3 4 (outcome.Ran 1) ∷ entry.Turn ∷ entry.Turn ∷ []
+
+abbrev pub early : List Entry
+early = early_with 3
+
+-- the same, but for the third chunk
+abbrev pub other : List Entry
+other = early_with 4
+
 abbrev pub resetting : List Entry
 resetting =
     made 0 (call.Configure pcm) ∷ made 1 (call.Decode (sample 1))
@@ -46,6 +70,13 @@ resetting =
     ∷ entry.Done 0 1 2 (outcome.Ran 1) ∷ entry.Turn
     ∷ entry.Start 1 0 ∷ entry.Done 1 0 3 (outcome.Ran 0) ∷ entry.Turn ∷ entry.Turn
     ∷ entry.Start 1 1 ∷ entry.Done 1 1 4 (outcome.Ran 1) ∷ entry.Turn ∷ entry.Turn ∷ []
+
+abbrev pub flushing : List Entry
+flushing =
+    made 0 (call.Configure pcm) ∷ made 1 (call.Decode (sample 1)) ∷ made 2 call.Flush
+    ∷ entry.Start 0 0 ∷ entry.Done 0 0 1 (outcome.Ran 0) ∷ entry.Turn ∷ entry.Turn
+    ∷ entry.Start 0 1 ∷ entry.Done 0 1 2 (outcome.Ran 1) ∷ entry.Start 0 2 ∷ entry.Done 0 2 3 (outcome.Ran 0)
+    ∷ entry.Turn ∷ entry.Turn ∷ entry.Turn ∷ []
 
 abbrev pub closing : List Entry
 closing =
@@ -69,12 +100,36 @@ SaturatingPlaces =
     outputs (sights two saturating)
     ≡ record { source = record { call = 1; configure = 0; index = 0 }; turn = 14 } ∷ record { source = record { call = 2; configure = 0; index = 1 }; turn = 15 } ∷ record { source = record { call = 3; configure = 0; index = 2 }; turn = 19 } ∷ []
 
+abbrev pub sound : ℕ → media.Unit
+sound n = unit.Sound (record { shape = record { format = S16; rate = 8000; channels = 1; frames = 1; timestamp = pos 0 }; bytes = n ∷ 0 ∷ [] })
+
+abbrev pub sounds : ℕ → List media.Unit
+sounds last = sound 1 ∷ sound 2 ∷ sound last ∷ []
+
+-- the outputs of the same calls are the same, whenever they come
+pub record EarlyShows : Type 0 where
+  pub saturated : outputs_of (shown two saturating) ≡ sounds 3
+  pub early_too : outputs_of (shown two early) ≡ sounds 3
+  pub otherwise : outputs_of (shown two other) ≡ sounds 4
+  pub ends : flush_ends two early ≡ flush_ends two saturating
+
+-- the second of two outputs is the second that the definition gives for its calls
+pub record SaturatingGiven : Type 0 where
+  pub place : (configuration_at two saturating 2).place ≡ 0
+  pub given : units_of (answers_to (configuration_at two saturating 2).given) ≡ sound 1 ∷ sound 2 ∷ []
+
 -- two dequeue events, and the fall between them
 pub record SaturatingFalls : Type 0 where
   pub first : dequeues_at (sights two saturating) 12 ≡ true
   pub second : dequeues_at (sights two saturating) 16 ≡ true
   pub falls : falls_at (sights two saturating) 13 ≡ true
   pub stays : falls_at (sights two saturating) 14 ≡ false
+
+-- what a decode before a flush gave is shown before its promise is resolved
+pub record FlushingEnds : Type 0 where
+  pub gave : given (sights four flushing) ≡ record { call = 1; configure = 0; index = 0 } ∷ []
+  pub shows : outputs (sights four flushing) ≡ record { source = record { call = 1; configure = 0; index = 0 }; turn = 12 } ∷ []
+  pub ends : end_from 2 0 (sights four flushing) ≡ Some (13, promise.Resolved)
 
 -- two promises that a close rejects, and one that is refused afterwards
 pub record ClosingEnds : Type 0 where

@@ -6,4 +6,6 @@
 mod codec_laws_tests;
 mod rows;
 
-pub use rows::{closing_run, resetting_run, saturating_run, unsupported_run};
+pub use rows::{
+    closing_run, early_run, flushing_run, resetting_run, saturating_run, unsupported_run,
+};

@@ -1,6 +1,6 @@
 // The laws' definitions on whole runs, computed by the checker.
 ghost use Rattle.codec_model.specs.Replay.{IsLegal};
-ghost use Rattle.law_rows.specs.Rows.{four, two, closing, resetting, saturating, ResettingPlaces, SaturatingPlaces, SaturatingFalls, ClosingEnds, UnsupportedEnds};
+ghost use Rattle.law_rows.specs.Rows.{four, two, closing, flushing, FlushingEnds, resetting, saturating, ResettingPlaces, early, other, SaturatingPlaces, SaturatingFalls, SaturatingGiven, EarlyShows, ClosingEnds, UnsupportedEnds};
 
 /// A reset while an item is at work: what comes of it is not shown.
 pub fn resetting_run()
@@ -13,6 +13,20 @@ pub fn saturating_run()
     ensures legal { IsLegal two saturating }
     ensures places { SaturatingPlaces }
     ensures falls { SaturatingFalls }
+    ensures given { SaturatingGiven }
+{}
+
+/// The same calls, each item started as soon as it may; and once more with another third chunk.
+pub fn early_run()
+    ensures legal { IsLegal two early }
+    ensures other_legal { IsLegal two other }
+    ensures shows { EarlyShows }
+{}
+
+/// A decode and a flush.
+pub fn flushing_run()
+    ensures legal { IsLegal four flushing }
+    ensures ends { FlushingEnds }
 {}
 
 /// Two flushes, two closes, and one more flush.
