@@ -1,18 +1,12 @@
 -- What entries call for in the registry.
-use Rattle.std.proofs.Common.{ℕ, suc, ◌≡◌, ◌<◌, ◌+◌, ◌==◌, ◌&&◌, Bool, true, false, cond, not, List, [], ◌∷◌, ◌++◌, map, Option, Some, None, is_some, refl, ap, sym, subst, ◌∙◌, append-nil, append_assoc, arith, eq-eqb, ne_eqb, ⊎_elim, eqb}
+use Rattle.std.proofs.Common.{ℕ, suc, ◌≡◌, ◌<◌, ◌==◌, Bool, true, false, cond, not, List, [], ◌∷◌, map, Option, Some, None, refl, ap, sym, subst, ◌∙◌, arith, eq-eqb}
 use Rattle.std.specs.Prelude.{nat_le, nat_lt}
 use Rattle.std.proofs.lemmas.Bool.{and_from}
 use Rattle.std.proofs.lemmas.Bool.Decides.{nat_tests}
-use Rattle.atomic_table.specs.declared.shared.Seat.{Seat}
 use Rattle.wc_base.specs.declared.who.By.{By}
 use Rattle.wc_base.specs.declared.who.By.TheVariants as by
-use Rattle.wc_base.specs.Views.{Log}
-use Rattle.wc_base.specs.declared.seat.Passage.{Passage}
-use Rattle.wc_base.specs.declared.seat.Passage.TheVariants.{Made, Look}
-use Rattle.wc_base.specs.declared.seat.View.{View}
 use Rattle.wc_config.specs.declared.codec.CoderId.{CoderId}
 use Rattle.coder_api.specs.Lent.{Lent}
-use Rattle.coder_api.specs.declared.slot.SlotEntry.{SlotEntry}
 use Rattle.slot_registry.specs.Slots.{is_later}
 use Rattle.codec_model.specs.declared.entry.Opening.{Opening}
 use Rattle.codec_model.specs.declared.entry.Entry.{Entry}
@@ -21,14 +15,8 @@ use Rattle.codec_accounts.specs.Registry.{Box}
 use Rattle.codec_core.specs.Codec.{Codec, IsBy, handed_back}
 use Rattle.codec_core.specs.Owning.{GoesBack}
 use Rattle.codec_core.specs.Job.{stopped_box}
-use Rattle.seat_lock.specs.Logs.{Has, IsNotIn, NoneBy, Continues}
-use Rattle.seat_lock.specs.Own.{is_in}
-use Rattle.seat_lock.specs.Passages.{Passes}
-use Rattle.seat_lock.specs.Seats.{Sitting}
-use Rattle.codec_logs.specs.declared.event.Event.{Event}
-use Rattle.codec_logs.specs.Logs.{Track, opening_track, BoxIs, act_in, acquires_of, box_of, track, track_by, track_from}
-use Rattle.codec_logs.specs.LogLaws.{track_append}
-use Rattle.shared_codec.specs.Dues.{give_by, slot_dues, dues_in, dues_by, OwedSince, gives_of, given_if, IsLater}
+use Rattle.codec_logs.specs.Logs.{BoxIs}
+use Rattle.shared_codec.specs.Dues.{give_by, gives_of, given_if, IsLater}
 
 -- ---- a box leaves after it was asked for
 

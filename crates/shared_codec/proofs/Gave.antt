@@ -1,6 +1,6 @@
 -- Calls that are neither starts nor ends of items, in one passage.
-use Rattle.std.proofs.Common.{ℕ, ◌≡◌, ◌+◌, ◌≤◌, ◌<◌, arith, Bool, true, false, not, cond, List, [], ◌∷◌, ◌++◌, map, length, length-append, Option, Some, None, is_some, refl, ap, sym, subst, ◌∙◌, append-nil}
-use Rattle.std.specs.Prelude.{unwrap_or, if◌then◌else◌, Result, Ok, Err, IfOk, IfErr, OnOk, OnErr, IfSome, IfNone, OnSome}
+use Rattle.std.proofs.Common.{ℕ, ◌≡◌, ◌≤◌, ◌<◌, arith, Bool, true, false, not, cond, List, [], ◌∷◌, ◌++◌, map, length, length-append, Option, Some, None, is_some, refl, ap, sym, subst, ◌∙◌, append-nil}
+use Rattle.std.specs.Prelude.{unwrap_or, if◌then◌else◌, Result, Ok, Err, IfSome, IfNone, OnSome}
 use Rattle.std.specs.Result.{is_ok}
 use Rattle.atomic_table.specs.Seated.{TableId}
 use Rattle.atomic_table.specs.declared.shared.Seat.{Seat}
@@ -13,17 +13,17 @@ use Rattle.wc_base.specs.declared.seat.View.{View}
 use Rattle.wc_pool.specs.declared.reference.MediaRef.{MediaRef}
 use Rattle.coder_api.specs.Lent.{Lent}
 use Rattle.codec_model.specs.declared.entry.{Opening.Opening, Entry.Entry, Call.Call, Task.Task}
-use Rattle.codec_model.specs.Control.{Control, may_reclaim, turn_closes}
+use Rattle.codec_model.specs.Control.{may_reclaim, turn_closes}
 use Rattle.codec_model.specs.Held.{in_order, closes_codec, is_removal, adds_held, lets_go, waiting_held}
 use Rattle.codec_model.specs.Replay.{State, sends, call_error}
-use Rattle.codec_model.specs.Shown.{exception_of, promise_of}
-use Rattle.codec_accounts.specs.Boxes.{Act, Removes, Other, Holds, holds_by, holds_removed, box_with, lets_go_by, MayCome, removal_act, act_of}
+use Rattle.codec_model.specs.Shown.{exception_of}
+use Rattle.codec_accounts.specs.Boxes.{Other, Holds, holds_by, holds_removed, box_with, lets_go_by, MayCome, removal_act, act_of}
 use Rattle.codec_accounts.specs.Registry.{Box}
 use Rattle.codec_core.specs.declared.out.Out.{Out}
 use Rattle.codec_core.specs.Job.{stopped_box}
-use Rattle.codec_core.specs.Codec.{Codec, state_at, Makes, Replied, kept_box, handed_back, closes_now, places_taken}
+use Rattle.codec_core.specs.Codec.{Codec, state_at, Makes, kept_box, handed_back, closes_now}
 use Rattle.codec_core.specs.Owning.{GoesBack}
-use Rattle.codec_media.specs.Holding.{Holding, ReplyValue, RemovedValue, TurnedValue, SameHeld, LetsGo, all_of, pair_of, own_reply, media_gone, media_left}
+use Rattle.codec_media.specs.Holding.{Holding, ReplyValue, RemovedValue, TurnedValue, SameHeld, LetsGo, all_of, pair_of}
 use Rattle.seat_lock.specs.Passages.{Passes}
 use Rattle.seat_lock.specs.Seats.{Sitting}
 use Rattle.codec_logs.specs.declared.event.Acquires.{Acquires}
@@ -32,9 +32,9 @@ use Rattle.codec_logs.specs.Logs.{entry_of, history_of, acquires_of, box_of, Tra
 use Rattle.codec_logs.specs.LogLaws.{legal_log, home_removal}
 use Rattle.shared_pool.specs.Refs.{AreOf}
 use Rattle.shared_slots.specs.Boxes.{IfOut}
-use Rattle.shared_codec.specs.Dues.{give_by, slot_dues, media_dues, clones_at, ends_at, gives_of}
-use Rattle.shared_codec.specs.Shared.{Shared, no_mint, no_spend, StandsFor, WentIs, IsLast, PassageIs, takes_place, places_in, LookedIn, NoneIn, codec_of}
-use Rattle.shared_codec.specs.Calls.{GaveIn, RepliedIn, WantedIn, CallTells, TurnTells, ReclaimTells, media_in, box_in}
+use Rattle.shared_codec.specs.Dues.{give_by, clones_at, ends_at, gives_of}
+use Rattle.shared_codec.specs.Shared.{Shared, no_mint, no_spend, StandsFor, WentIs, PassageIs, places_in, codec_of}
+use Rattle.shared_codec.specs.Calls.{GaveIn, RepliedIn, CallTells, TurnTells, ReclaimTells, media_in, box_in}
 use Rattle.shared_codec.specs.Gives.{Calls, CallGives}
 use Rattle.shared_codec.specs.Looks.{Saw}
 use Rattle.shared_codec.proofs.Dues.{OfCodec, of_box, later_of, due_box, gives_stopped}

@@ -1,21 +1,20 @@
 -- Starts and ends of items, in one passage.
-use Rattle.std.proofs.Common.{ℕ, ◌≡◌, Bool, true, false, eqb, not, List, [], ◌∷◌, ◌++◌, map, length, Option, Some, None, is_some, refl, ap, sym, subst, ◌∙◌}
+use Rattle.std.proofs.Common.{ℕ, ◌≡◌, Bool, true, eqb, not, List, [], ◌∷◌, ◌++◌, map, length, Option, Some, None, is_some, ap, sym, subst, ◌∙◌}
 use Rattle.std.specs.Prelude.{option_map, IfSome, IfNone, OnSome}
 use Rattle.atomic_table.specs.Seated.{TableId}
 use Rattle.atomic_table.specs.declared.shared.Seat.{Seat}
 use Rattle.wc_base.specs.Views.{Log}
 use Rattle.wc_base.specs.declared.seat.Passage.{Passage}
-use Rattle.wc_base.specs.declared.seat.Passage.TheVariants.{Made, Look}
+use Rattle.wc_base.specs.declared.seat.Passage.TheVariants.{Made}
 use Rattle.wc_base.specs.declared.seat.View.{View}
 use Rattle.wc_pool.specs.declared.reference.MediaRef.{MediaRef}
 use Rattle.coder_api.specs.Lent.{Lent}
 use Rattle.codec_model.specs.declared.entry.{Opening.Opening, Entry.Entry}
-use Rattle.codec_model.specs.Control.{Control, start_item}
+use Rattle.codec_model.specs.Control.{start_item}
 use Rattle.codec_model.specs.Replay.{State, missing_coder}
 use Rattle.codec_model.specs.Held.{in_order, running_pairs, adds_held, lets_go}
-use Rattle.wc_config.specs.declared.codec.CoderId.{CoderId}
 use Rattle.codec_core.specs.Job.{JobValue, DoneValue, IsJobOf, missing_id, outcome_of}
-use Rattle.codec_core.specs.Codec.{Codec, state_at, Makes, item_parts, kept_box, handed_back, went_out}
+use Rattle.codec_core.specs.Codec.{state_at, Makes, item_parts, kept_box, handed_back, went_out}
 use Rattle.codec_core.specs.Owning.{GoesBack}
 use Rattle.codec_media.specs.Holding.{Holding, EndedValue, all_of, pair_of}
 use Rattle.seat_lock.specs.Passages.{Passes}
@@ -32,8 +31,8 @@ use Rattle.shared_codec.specs.Dues.{give_by, slot_dues, media_dues, clones_at, e
 use Rattle.shared_codec.proofs.Dues.{OfCodec, of_box, of_back, later_of, due_start, due_end}
 use Rattle.shared_pool.specs.Refs.{AreOf, IfOf}
 use Rattle.shared_slots.specs.Boxes.{IfOut}
-use Rattle.shared_codec.specs.Shared.{Shared, no_mint, no_spend, StandsFor, IsLast, PassageIs, NoneIn, MayEndAt, HasJobAt, HasJob, codec_of}
-use Rattle.shared_codec.specs.Jobs.{StartTells, StartedIn, DoneIn}
+use Rattle.shared_codec.specs.Shared.{Shared, no_mint, no_spend, StandsFor, PassageIs, MayEndAt, HasJob, codec_of}
+use Rattle.shared_codec.specs.Jobs.{StartTells, DoneIn}
 use Rattle.shared_codec.proofs.Stands.{StandsAt, event_is, stands_look, made_in, looked_in, are_split, if_of, goes_in, start_act_is, start_idle, home_box, stands_start, has_job, stands_done, out_back}
 
 -- what a start of the codec gives

@@ -1,7 +1,10 @@
 pub mod Dues
+pub mod Encoded
+pub mod Ending
 pub mod Gave
 pub mod Jobs
 pub mod Stands
+pub mod Sums
 pub mod Taken
 pub mod Worked
 pub mod Working

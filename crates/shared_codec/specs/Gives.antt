@@ -1,5 +1,5 @@
 -- What calls of the locked codec give, inside their passage.
-use Rattle.std.specs.Prelude.{ℕ, ◌≡◌, true, false, List, [], ◌∷◌, ◌++◌, length, map, Option, Some, None, Result, Ok, Err}
+use Rattle.std.specs.Prelude.{ℕ, ◌≡◌, false, List, [], ◌++◌, length, map, Option, Some, None, Result, Ok, Err}
 use Rattle.atomic_table.specs.Seated.{TableId}
 use Rattle.wc_base.specs.declared.error.NoMemory.{NoMemory}
 use Rattle.wc_base.specs.declared.media.Samples.{Samples}
@@ -13,10 +13,11 @@ use Rattle.codec_model.specs.declared.entry.Call.TheVariants as call
 use Rattle.codec_model.specs.Control.{may_take}
 use Rattle.codec_model.specs.Held.{lets_go}
 use Rattle.codec_model.specs.Replay.{sends, is_configured}
-use Rattle.codec_core.specs.Codec.{Codec, state_at, Replied}
+use Rattle.codec_core.specs.Codec.{state_at, Replied}
 use Rattle.codec_core.specs.Owning.{GoesBack}
 use Rattle.codec_media.specs.Holding.{Holding, ReplyValue, pair_of, own_reply, media_gone, media_left}
 use Rattle.shared_pool.specs.Refs.{AreOf}
+use Rattle.shared_codec.specs.Encodes.{Hands, NoneKept}
 
 -- a call with what it brings
 pub record Calls (old new : Holding) (who : Who) (x : Call) (r : ReplyValue) (brought : List MediaRef) : Type 0 where
@@ -41,3 +42,15 @@ abbrev pub TakeGives : Holding → Holding → Who → ℕ → Result (Option �
 TakeGives old new who number (Ok (Some place)) = Calls old new who (call.Take number) (taken_at place) []
 TakeGives old new who number (Ok None) = (may_take number (state_at old.codec).control ≡ false) × (new ≡ old)
 TakeGives old new who number (Err e) = (new ≡ old) × (old.codec.spare ≡ 0)
+
+-- an encode of open data, by the codec with this number, with what the pool's seat made for it
+pub record Encodes (k : ℕ) (pool : TableId) (old new : Holding) (who : Who) (samples : Samples) (medium : MediaRef) (r : ReplyValue) (v w : View PoolEntry) : Type 0 where
+  pub given : Handed
+  pub brought : List MediaRef
+  pub calls : Calls old new who (call.Encode given) r brought
+  pub of : AreOf pool brought
+  pub hands : Hands k r.place samples medium given v w
+
+abbrev pub EncodeGives : ℕ → TableId → Holding → Holding → Who → Samples → MediaRef → Result ReplyValue NoMemory → View PoolEntry → View PoolEntry → Type 0
+EncodeGives k pool old new who samples medium (Ok r) v w = Encodes k pool old new who samples medium r v w
+EncodeGives k pool old new who samples medium (Err e) v w = (new ≡ old) × NoneKept k (length old.codec.history) v w × (is_configured (state_at old.codec).control ≡ false → old.codec.spare ≡ 0)

@@ -1,5 +1,5 @@
 -- What stays of a seat, whatever passages are made with it.
-use Rattle.std.proofs.Common.{ℕ, ◌≡◌, List, Option, refl, ◌∙◌}
+use Rattle.std.proofs.Common.{◌≡◌, List, Option, refl, ◌∙◌}
 use Rattle.atomic_table.specs.Seated.{TableId}
 use Rattle.atomic_table.specs.declared.shared.Seat.{Seat}
 use Rattle.wc_base.specs.declared.seat.View.{View}

@@ -3,8 +3,11 @@ pub mod DueLaws
 pub mod Keeps
 pub mod Shared
 pub mod Settles
+pub mod Settled
+pub mod Sums
 pub mod Jobs
 pub mod Calls
+pub mod Encodes
 pub mod Gives
 pub mod Looks
 pub mod Takes

@@ -1,9 +1,8 @@
 -- What one thread did with its seats at a codec, at its registry and at its pool.
-use Rattle.std.proofs.Common.{ℕ, ◌≡◌, List, [], ◌∷◌, ◌++◌}
+use Rattle.std.proofs.Common.{ℕ, List, [], ◌∷◌, ◌++◌}
 use Rattle.wc_base.specs.declared.seat.View.{View}
 use Rattle.wc_pool.specs.declared.entry.{PoolEntry.PoolEntry, PoolOp.PoolOp}
 use Rattle.coder_api.specs.declared.slot.SlotEntry.{SlotEntry}
-use Rattle.codec_model.specs.declared.entry.Opening.{Opening}
 use Rattle.seat_lock.specs.Since.{MadeSince}
 use Rattle.seat_lock.specs.SinceLaws.{made_none, made_then}
 use Rattle.codec_logs.specs.declared.event.Event.{Event}

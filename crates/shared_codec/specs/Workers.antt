@@ -1,11 +1,10 @@
 -- What a worker does with an item: its acquires, and what its entries call for.
-use Rattle.std.specs.Prelude.{ℕ, ◌≡◌, Bool, true, false, List, [], ◌∷◌, ◌++◌, Option, Some, None, is_some}
-use Rattle.atomic_table.specs.Seated.{TableId}
+use Rattle.std.specs.Prelude.{ℕ, ◌≡◌, Bool, true, false, List, [], ◌∷◌, map, Option, Some, None, is_some}
 use Rattle.atomic_table.specs.declared.shared.Seat.{Seat}
 use Rattle.wc_base.specs.declared.who.By.TheVariants as by
 use Rattle.wc_base.specs.declared.seat.View.{View}
 use Rattle.wc_config.specs.declared.codec.CoderId.{CoderId}
-use Rattle.wc_pool.specs.declared.entry.PoolEntry.{PoolEntry}
+use Rattle.wc_pool.specs.declared.entry.{PoolEntry.PoolEntry}
 use Rattle.wc_pool.specs.declared.reference.MediaRef.{MediaRef}
 use Rattle.wc_pool.specs.Pools.{ended_by}
 use Rattle.coder_api.specs.declared.slot.SlotEntry.{SlotEntry}
@@ -18,8 +17,8 @@ use Rattle.codec_logs.specs.declared.event.Event.{Event}
 use Rattle.codec_logs.specs.Logs.{box_of, BoxIs, AreTries}
 use Rattle.shared_slots.specs.Boxes.{Registry, IfOut}
 use Rattle.shared_slots.specs.Steps.{refused, RefusedAfter}
-use Rattle.shared_codec.specs.Dues.{given_if}
-use Rattle.codec_media.specs.Holding.{EndedValue}
+use Rattle.shared_codec.specs.Dues.{ends_at, DoFor, given_if}
+use Rattle.codec_media.specs.Holding.{EndedValue, pair_of}
 use Rattle.shared_codec.specs.Shared.{Shared, NoneIn}
 use Rattle.shared_codec.specs.Jobs.{StartedIn, DoneIn}
 
@@ -60,6 +59,12 @@ pub record AcquiredFor (r : Registry) (k place : ℕ) (d : DoneValue) (es : List
 abbrev pub EndsIf : ℕ → ℕ → Option MediaRef → View PoolEntry → View PoolEntry → Type 0
 EndsIf k place None v w = MadeSince v w []
 EndsIf k place (Some r) v w = (last : Bool) × MadeSince v w (ended_by (by.Codec k place) r last ∷ [])
+
+-- the ends of these references, in order
+pub record EndsAll (k place : ℕ) (media : List MediaRef) (v w : View PoolEntry) : Type 0 where
+  pub entries : List PoolEntry
+  pub made : MadeSince v w entries
+  pub are : DoFor k (ends_at place (map pair_of media)) entries
 
 -- The same, once these entries were made before.
 abbrev pub AcquiredThen : Registry → ℕ → ℕ → List SlotEntry → DoneValue → List SlotEntry → View SlotEntry → View SlotEntry → Type 0

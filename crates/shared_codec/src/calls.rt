@@ -43,7 +43,7 @@ pub(crate) fn call_placed<C: Coder>(
 }
 
 // Whether a call made an entry.
-fn has_replied<C: Coder>(reply: &Result<Reply<C>, NoMemory>) -> bool
+pub(crate) fn has_replied<C: Coder>(reply: &Result<Reply<C>, NoMemory>) -> bool
     ensures { result ≡ is_ok reply.now }
 {
     match reply {

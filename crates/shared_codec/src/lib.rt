@@ -4,10 +4,15 @@
 
 mod calls;
 mod codec;
+mod encodes;
+mod laws;
 mod looks;
 mod passage;
+mod settling;
 mod takes;
 mod workers;
 
 pub use codec::{About, CodecSeat, Locked, SharedCodec};
+pub use laws::dues_add_up;
+pub use settling::Answer;
 pub use takes::NextOutput;

@@ -5,7 +5,7 @@ ghost use Rattle.codec_model.specs.Replay.{State};
 ghost use Rattle.seat_lock.specs.Seats.{IsSameSeat, IsIdleAt};
 ghost use Rattle.seat_lock.specs.Since.{MadeSince};
 ghost use Rattle.codec_logs.specs.Logs.{acquires_of};
-ghost use Rattle.shared_pool.specs.Refs.{IfOf};
+ghost use Rattle.shared_pool.specs.Refs.{AreOf, IfOf};
 ghost use Rattle.shared_pool.specs.Steps as pools;
 ghost use Rattle.shared_slots.specs.Boxes.{IfOut};
 ghost use Rattle.shared_slots.specs.Steps.{IsFree};
@@ -13,7 +13,7 @@ ghost use Rattle.shared_codec.specs.Dues.{IsLater, gives_of, given_if};
 ghost use Rattle.shared_codec.specs.Keeps.{Keeps};
 ghost use Rattle.shared_codec.specs.Shared.{HasJob, MayEnd};
 ghost use Rattle.shared_codec.specs.Settles.{Settles};
-ghost use Rattle.shared_codec.specs.Workers.{AcquiredFor, AcquiredThen, EndsIf, WorkTells};
+ghost use Rattle.shared_codec.specs.Workers.{AcquiredFor, AcquiredThen, EndsIf, EndsAll, WorkTells};
 
 use crate::codec::{CodecSeat, SharedCodec};
 use crate::passage::no_acquires;
@@ -77,6 +77,26 @@ fn end_if<R: Wait>(
 {
     if let Some(medium) = medium {
         pool.end(rt, seat, By::Codec { codec, place }, medium);
+    }
+}
+
+// These references are ended, one after another, by the codec's entry at this place.
+fn end_each<R: Wait>(
+    rt: &R,
+    codec: u32,
+    place: u64,
+    media: Vec<MediaRef>,
+    pool: &SharedPool,
+    seat: &mut PoolSeat,
+)
+    requires seat { pools.IsFree pool.now seat.old }
+    requires of { AreOf pool.now media.items }
+    ensures same { IsSameSeat seat.old seat.new }
+    ensures free { pools.IsFree pool.now seat.new }
+    ensures ends { EndsAll codec place media.items seat.old.me.0 seat.new.me.0 }
+{
+    for medium in media {
+        end_if(rt, codec, place, Some(medium), pool, seat);
     }
 }
 
@@ -155,6 +175,39 @@ impl<C: Coder> SharedCodec<C> {
                 acquire_end(rt, alloc, self.codec, job, id, slots, slot_seat)
             }
         }
+    }
+
+    /// What an entry of this codec let go goes back: each reference is ended, in order, and then the box is given back, by
+    /// the entry at this place. It takes no memory.
+    pub fn let_go<R: Wait>(
+        &self,
+        rt: &R,
+        place: u64,
+        media: Vec<MediaRef>,
+        coder: Option<SlotBox<C>>,
+        slots: &SlotRegistry<C>,
+        slot_seat: &mut SlotSeat<C>,
+        pool: &SharedPool,
+        pool_seat: &mut PoolSeat,
+    )
+        requires slots { slots.now.id ≡ self.now.slots }
+        requires pool { pool.now ≡ self.now.pool }
+        requires slot_seat { IsFree slots.now.id slot_seat.old }
+        requires pool_seat { pools.IsFree pool.now pool_seat.old }
+        requires media { AreOf self.now.pool media.items }
+        requires coder { IfOut self.now.slots coder }
+        requires later { IsLater self.now.codec place coder }
+        ensures kept_slots { Keeps slots.now.id slot_seat.old slot_seat.new }
+        ensures free_slots { IsFree slots.now.id slot_seat.new }
+        ensures kept_pool { Keeps pool.now pool_seat.old pool_seat.new }
+        ensures free_pool { pools.IsFree pool.now pool_seat.new }
+        ensures ended { EndsAll self.now.codec place media.items
+            pool_seat.old.me.0 pool_seat.new.me.0 }
+        ensures given { MadeSince slot_seat.old.me.0 slot_seat.new.me.0
+            (gives_of self.now.codec place coder) }
+    {
+        end_each(rt, self.codec, place, media, pool, pool_seat);
+        give_if(rt, self.codec, place, coder, slots, slot_seat);
     }
 
     /// One item, from its start to its end: its acquire, its work, and what its end lets go. None exactly where no item may

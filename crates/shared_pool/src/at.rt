@@ -10,6 +10,7 @@ use wc_pool::{MediaRef, RefPool};
 
 /// A shared pool at one seat: a `RefPool` whose calls are those of `SharedPool`, one passage each. What stands over a
 /// `RefPool`, as audio data and video frames, stands over it too.
+#[derive(Drop)]
 pub struct PoolAt<'a, R> {
     rt: &'a R,
     pool: &'a SharedPool,

@@ -1,4 +1,4 @@
-use Rattle.std.proofs.Common.{ℕ, zero, suc, ◌≡◌, ◌+◌, ◌-◌, List, [], ◌∷◌, ◌++◌, length, Option, Some, slice_get, sym, ap, ◌∙◌, arith}
+use Rattle.std.proofs.Common.{ℕ, zero, suc, ◌≡◌, ◌+◌, ◌-◌, List, [], ◌∷◌, length, Some, slice_get, sym, ap, arith}
 use Rattle.codec_model.specs.declared.entry.Entry.{Entry}
 use Rattle.shared_codec.specs.Shared.{IsLast}
 use Rattle.shared_codec.proofs.passage.last_entry.Goals as goal

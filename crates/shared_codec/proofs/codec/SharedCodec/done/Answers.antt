@@ -1,4 +1,4 @@
-use Rattle.std.proofs.Common.{ℕ, List, ◌≡◌, ◌∷◌, [], ◌++◌, ◌∙◌, length, Option, Some, None, refl, ap, sym, subst}
+use Rattle.std.proofs.Common.{ℕ, ◌∷◌, [], ◌++◌, ◌∙◌, sym, subst}
 use Rattle.seat_lock.specs.Own.{inside_of, number_of}
 use Rattle.seat_lock.specs.Passages.{passage_of}
 use Rattle.codec_logs.specs.Logs.{acquires_of}

@@ -1,13 +1,10 @@
-use Rattle.std.proofs.Common.{ℕ, List, ◌≡◌, ◌∷◌, [], ◌++◌, ◌∙◌, length, Option, Some, None, refl, ap, sym, subst}
-use Rattle.seat_lock.specs.Own.{inside_of, number_of}
-use Rattle.seat_lock.specs.Passages.{passage_of}
-use Rattle.codec_logs.specs.Logs.{acquires_of}
+use Rattle.std.proofs.Common.{◌≡◌, ◌∙◌, length, refl, ap, sym, subst}
+use Rattle.seat_lock.specs.Own.{inside_of}
 use Rattle.shared_codec.specs.declared.codec.Locked.{Locked}
 use Rattle.shared_codec.specs.Shared.{Shared}
 use Rattle.wc_base.specs.declared.seat.Passage.TheVariants.{Look}
 use Rattle.codec_model.specs.Replay.{State}
-use Rattle.codec_model.specs.Shown.{shown, ends_in, promise_state}
-use Rattle.codec_core.specs.Codec.{Codec, state_at, progress_of}
+use Rattle.codec_core.specs.Codec.{Codec, state_at}
 use Rattle.codec_logs.specs.Logs.{history_of}
 use Rattle.shared_codec.specs.Shared.{state_in}
 use Rattle.shared_codec.proofs.Stands.{StandsAt, passes_in, stands_look, keeps_passage}

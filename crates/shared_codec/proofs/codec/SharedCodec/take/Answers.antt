@@ -1,5 +1,5 @@
-use Rattle.std.proofs.Common.{ℕ, List, ◌≡◌, ◌<◌, ◌∷◌, [], ◌++◌, ◌∙◌, length, Option, Some, None, refl, ap, sym, subst}
-use Rattle.seat_lock.specs.Own.{inside_of, number_of}
+use Rattle.std.proofs.Common.{◌∙◌, ap, sym, subst}
+use Rattle.seat_lock.specs.Own.{inside_of}
 use Rattle.seat_lock.specs.Passages.{passage_of}
 use Rattle.codec_logs.specs.Logs.{acquires_of}
 use Rattle.shared_codec.specs.declared.codec.Locked.{Locked}

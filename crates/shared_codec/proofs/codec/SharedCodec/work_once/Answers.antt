@@ -1,6 +1,6 @@
-use Rattle.std.proofs.Common.{◌≡◌, ap, sym, ◌∙◌}
+use Rattle.std.proofs.Common.{◌≡◌, ap, ◌∙◌}
 use Rattle.codec_logs.specs.Logs.{acquires_of}
-use Rattle.shared_codec.specs.Keeps.{keeps_then, keeps_none, keeps_since}
+use Rattle.shared_codec.specs.Keeps.{keeps_then}
 use Rattle.shared_codec.specs.Shared.{Shared}
 use Rattle.shared_codec.proofs.Working.{rested, worked, work_settles}
 use Rattle.shared_codec.proofs.codec.SharedCodec.work_once.Goals as goal

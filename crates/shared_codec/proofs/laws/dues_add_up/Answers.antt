@@ -1,0 +1,9 @@
+use Rattle.shared_codec.specs.Dues.{slot_dues, media_dues}
+use Rattle.shared_codec.proofs.Sums as sums
+use Rattle.shared_codec.proofs.laws.dues_add_up.Goals as goal
+
+pub returns-clause-slots : goal.returns-clause-slots
+returns-clause-slots c = sums.dues_add_up slot_dues
+
+pub returns-clause-media : goal.returns-clause-media
+returns-clause-media c = sums.dues_add_up media_dues
