@@ -113,8 +113,10 @@ fn a_wav_file_is_read(rt: HostRuntime) -> Result<(), Fail> {
     let script = script(alloc, 0)?;
     let mut files = files(alloc, WAV, Vec::new(alloc))?;
     let media = read_media(alloc, &script, &mut files)?;
-    assert_eq!(rt; media[1].len(), 1);
-    let chunk = &media[1].as_slice()[0];
+    assert_eq!(rt; media.len(), 2);
+    let chunks = media[1].as_slice();
+    assert_eq!(rt; chunks.len(), 1);
+    let chunk = &chunks[0];
     assert_eq!(rt; (chunk.timestamp, chunk.duration), (0, Some(250)));
     assert_eq!(rt; chunk.bytes.as_slice(), b"\x01\x00\x02\x00".as_slice());
     Ok(())
