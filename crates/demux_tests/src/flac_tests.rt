@@ -80,12 +80,18 @@ fn cut_files(rt: HostRuntime) -> Result<(), Fail> {
     Ok(())
 }
 
+// The frames with another byte at a place.
 fn with_byte(at: usize, byte: u8) -> [u8; 74] {
     let mut file = FRAMES;
     if at < 74 {
         file[at] = byte;
     }
     file
+}
+
+// Why a file without its last byte is none.
+fn fault_before_last(alloc: Global, file: &[u8; 74]) -> Result<Option<DemuxFault>, NoMemory> {
+    fault_of(alloc, &file[..73])
 }
 
 #[test]
@@ -104,7 +110,7 @@ fn faults_of_one_byte(rt: HostRuntime) -> Result<(), Fail> {
         (48, 0xbe, 42),
         (72, 0x25, 57),
     ] {
-        let fault = fault_of(rt.alloc(), &with_byte(at, byte)[..73])?;
+        let fault = fault_before_last(rt.alloc(), &with_byte(at, byte))?;
         assert_eq!(rt; fault, Some(DemuxFault::BadFlac { at: place }));
     }
     Ok(())
