@@ -28,10 +28,11 @@ pub struct About<C: Coder> {
     pub slots: Snapshot<SlotRegistry<C>>,
 }
 
-/// A codec in its lock. It stands for the lists of passages that are its history (`StandsFor`).
+/// A codec in its lock. It stands for the lists of passages that are its history (`StandsFor`). It is boxed, since each passage
+/// moves what is locked.
 #[derive(Drop)]
 pub struct Locked<C: Coder> {
-    pub core: HoldingCore<C>,
+    pub core: Box<HoldingCore<C>>,
 }
 
 impl<C: Coder> Told for Locked<C> {
@@ -45,7 +46,7 @@ impl<C: Coder> Told for Locked<C> {
 
     ghost spends = { no_spend };
 
-    ghost tells = { λ about x log. StandsFor about.codec about.opening about.calls about.pool.value about.slots.value.id x.core log };
+    ghost tells = { λ about x log. StandsFor about.codec about.opening about.calls about.pool.value about.slots.value.id x.core.value log };
 }
 
 /// A seat at a shared codec, with which one thread at a time makes its calls.
@@ -91,6 +92,9 @@ impl<C: Coder> SharedCodec<C> {
         ensures seat { IfOk result (λ r. (r.1.table_id ≡ r.0.id) × HasView first_view r.1) }
     {
         let core = HoldingCore::open(alloc, kind, saturation, calls)?;
+        let Ok(core) = Box::new(alloc, core) else {
+            return Err(NoMemory);
+        };
         let about = About {
             codec,
             opening: Opening { kind, saturation },
@@ -130,6 +134,6 @@ impl<C: Coder> SharedCodec<C> {
     {
         let SharedCodec { lock, codec: _ } = self;
         let Locked { core } = lock.close(seat);
-        core
+        Box::into_inner(core)
     }
 }

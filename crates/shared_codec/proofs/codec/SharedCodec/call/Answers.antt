@@ -2,6 +2,7 @@ use Rattle.std.proofs.Common.{◌∙◌, ap, sym, subst}
 use Rattle.seat_lock.specs.Own.{inside_of}
 use Rattle.seat_lock.specs.Passages.{passage_of}
 use Rattle.codec_logs.specs.Logs.{acquires_of}
+use Rattle.codec_media.specs.Holding.{Holding}
 use Rattle.shared_codec.specs.declared.codec.Locked.{Locked}
 use Rattle.shared_codec.specs.Shared.{Shared}
 use Rattle.shared_codec.proofs.Stands.{StandsAt, nothing_spent, passes_in, keeps_passage}
@@ -16,13 +17,13 @@ pub leave-requires-clause-log : goal.leave-requires-clause-log
 leave-requires-clause-log g c =
     let s : Shared = record { id = c.self.inside.lock.id; codec = c.self.inside.lock.about.codec; opening = c.self.inside.lock.about.opening; calls = c.self.inside.lock.about.calls; pool = c.self.inside.lock.about.pool.value; slots = c.self.inside.lock.about.slots.value.id } in
     let e = c.enter-held.ensures.log in
-    let st : StandsAt s c.state.result.now.core e.log = subst (λ (x : Locked _). StandsAt s x.core e.log) (sym c.state.ensures.value) e.stands in
+    let st : StandsAt s c.deref_mut.result.now e.log = subst (λ (x : Holding). StandsAt s x e.log) (sym c.deref_mut.ensures.value) (subst (λ (x : Locked _). StandsAt s x.core.value e.log) (sym c.state.ensures.value) e.stands) in
     let n = c.enter-held.new.seat.me.0.number in
-    let is = rw (c.has_replied-made.ensures, c.core.ensures, c.state-2.ensures.value) at c.passage_if-passage.ensures in
+    let is = rw (c.has_replied-made.ensures, c.core.ensures, c.deref.ensures, c.state-2.ensures.value) at c.passage_if-passage.ensures in
     record {
       log = e.log;
       inside = inside_of e.log _ _ e.goes_in;
-      stands = rw c.state-2.ensures.value (stands_call s.codec s.opening s.calls s.pool s.slots n c.args.who c.args.call c.call_placed-reply.result c.state.result.now.core c.call_placed-reply.new.core e.log _ c.no_acquires.result (ap acquires_of c.no_acquires.ensures) c.call_placed-reply.ensures is st);
+      stands = rw c.state-2.ensures.value (stands_call s.codec s.opening s.calls s.pool s.slots n c.args.who c.args.call c.call_placed-reply.result c.deref_mut.result.now c.call_placed-reply.new.core e.log _ c.no_acquires.result (ap acquires_of c.no_acquires.ensures) c.call_placed-reply.ensures is st);
       has_claim = nothing_spent e.log _ _;
     }
 
@@ -30,12 +31,12 @@ pub returns-clause-reply : goal.returns-clause-reply
 returns-clause-reply g c =
     let s : Shared = record { id = c.self.inside.lock.id; codec = c.self.inside.lock.about.codec; opening = c.self.inside.lock.about.opening; calls = c.self.inside.lock.about.calls; pool = c.self.inside.lock.about.pool.value; slots = c.self.inside.lock.about.slots.value.id } in
     let e = c.enter-held.ensures.log in
-    let st : StandsAt s c.state.result.now.core e.log = subst (λ (x : Locked _). StandsAt s x.core e.log) (sym c.state.ensures.value) e.stands in
+    let st : StandsAt s c.deref_mut.result.now e.log = subst (λ (x : Holding). StandsAt s x e.log) (sym c.deref_mut.ensures.value) (subst (λ (x : Locked _). StandsAt s x.core.value e.log) (sym c.state.ensures.value) e.stands) in
     let n = c.args.seat.now.me.0.number in
-    let is = rw (c.has_replied-made.ensures, c.core.ensures, c.state-2.ensures.value) at c.passage_if-passage.ensures in
+    let is = rw (c.has_replied-made.ensures, c.core.ensures, c.deref.ensures, c.state-2.ensures.value) at c.passage_if-passage.ensures in
     let passes = passes_in _ _ (passage_of c.passage_if-passage.result) c.args.seat.now c.enter-held.new.seat c.leave.new.seat e c.leave.ensures.log in
-    let next = stands_call s.codec s.opening s.calls s.pool s.slots n c.args.who c.args.call c.call_placed-reply.result c.state.result.now.core c.call_placed-reply.new.core e.log _ c.no_acquires.result (ap acquires_of c.no_acquires.ensures) c.call_placed-reply.ensures is st in
-    rw (← c.self.view_is) (tells_call s c.args.who c.args.call c.call_placed-reply.result c.state.result.now.core c.call_placed-reply.new.core _ c.no_acquires.result c.args.seat.now c.leave.new.seat passes (ap acquires_of c.no_acquires.ensures) c.call_placed-reply.ensures is st next)
+    let next = stands_call s.codec s.opening s.calls s.pool s.slots n c.args.who c.args.call c.call_placed-reply.result c.deref_mut.result.now c.call_placed-reply.new.core e.log _ c.no_acquires.result (ap acquires_of c.no_acquires.ensures) c.call_placed-reply.ensures is st in
+    rw (← c.self.view_is) (tells_call s c.args.who c.args.call c.call_placed-reply.result c.deref_mut.result.now c.call_placed-reply.new.core _ c.no_acquires.result c.args.seat.now c.leave.new.seat passes (ap acquires_of c.no_acquires.ensures) c.call_placed-reply.ensures is st next)
 
 pub returns-clause-kept : goal.returns-clause-kept
 returns-clause-kept g c =

@@ -1,6 +1,7 @@
 use Rattle.std.proofs.Common.{◌≡◌, ◌∙◌, refl, ap, sym, subst}
 use Rattle.seat_lock.specs.Own.{inside_of}
 use Rattle.shared_codec.specs.declared.codec.Locked.{Locked}
+use Rattle.codec_media.specs.Holding.{Holding}
 use Rattle.shared_codec.specs.Shared.{Shared}
 use Rattle.wc_base.specs.declared.seat.Passage.TheVariants.{Look}
 use Rattle.codec_model.specs.Shown.{shown, ends_in, promise_state}
@@ -14,11 +15,11 @@ pub leave-requires-clause-log : goal.leave-requires-clause-log
 leave-requires-clause-log g c =
     let s : Shared = record { id = c.self.inside.lock.id; codec = c.self.inside.lock.about.codec; opening = c.self.inside.lock.about.opening; calls = c.self.inside.lock.about.calls; pool = c.self.inside.lock.about.pool.value; slots = c.self.inside.lock.about.slots.value.id } in
     let e = c.enter-held.ensures.log in
-    let st : StandsAt s c.state.result.now.core e.log = subst (λ (x : Locked _). StandsAt s x.core e.log) (sym c.state.ensures.value) e.stands in
+    let st : StandsAt s c.state.result.now.core.value e.log = subst (λ (x : Locked _). StandsAt s x.core.value e.log) (sym c.state.ensures.value) e.stands in
     record {
       log = e.log;
       inside = inside_of e.log _ _ e.goes_in;
-      stands = stands_look s.codec s.opening s.calls s.pool s.slots _ c.state.result.now.core c.state.result.now.core e.log st refl st.held;
+      stands = stands_look s.codec s.opening s.calls s.pool s.slots _ c.state.result.now.core.value c.state.result.now.core.value e.log st refl st.held;
       has_claim = tt;
     }
 
@@ -26,9 +27,9 @@ pub returns-clause-end : goal.returns-clause-end
 returns-clause-end g c =
     let s : Shared = record { id = c.self.inside.lock.id; codec = c.self.inside.lock.about.codec; opening = c.self.inside.lock.about.opening; calls = c.self.inside.lock.about.calls; pool = c.self.inside.lock.about.pool.value; slots = c.self.inside.lock.about.slots.value.id } in
     let e = c.enter-held.ensures.log in
-    let st : StandsAt s c.state.result.now.core e.log = subst (λ (x : Locked _). StandsAt s x.core e.log) (sym c.state.ensures.value) e.stands in
+    let st : StandsAt s c.state.result.now.core.value e.log = subst (λ (x : Locked _). StandsAt s x.core.value e.log) (sym c.state.ensures.value) e.stands in
     let passes = passes_in _ _ Look c.args.seat.now c.enter-held.new.seat c.leave.new.seat e c.leave.ensures.log in
-    rw (← c.self.view_is) (saw s (λ log. c.end_of-end.result ≡ promise_state (ends_in (shown s.opening (history_of log))) c.args.promise) Look c.args.seat.now c.leave.new.seat passes refl c.state.result.now.core st (c.end_of-end.ensures ∙ (ap (λ (x : Codec). promise_state (ends_in (shown x.opening x.history)) c.args.promise) c.core.ensures ∙ (λ i. promise_state (ends_in (shown (st.opening i) (st.history i))) c.args.promise))))
+    rw (← c.self.view_is) (saw s (λ log. c.end_of-end.result ≡ promise_state (ends_in (shown s.opening (history_of log))) c.args.promise) Look c.args.seat.now c.leave.new.seat passes refl c.state.result.now.core.value st (c.end_of-end.ensures ∙ (ap (λ (x : Codec). promise_state (ends_in (shown x.opening x.history)) c.args.promise) (c.core.ensures ∙ ap (λ (x : Holding). x.codec) c.deref.ensures) ∙ (λ i. promise_state (ends_in (shown (st.opening i) (st.history i))) c.args.promise))))
 
 pub returns-clause-kept : goal.returns-clause-kept
 returns-clause-kept g c =

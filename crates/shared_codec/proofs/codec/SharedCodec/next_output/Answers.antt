@@ -1,6 +1,7 @@
-use Rattle.std.proofs.Common.{◌∙◌, refl, sym, subst}
+use Rattle.std.proofs.Common.{◌∙◌, refl, ap, sym, subst}
 use Rattle.seat_lock.specs.Own.{inside_of}
 use Rattle.shared_codec.specs.declared.codec.Locked.{Locked}
+use Rattle.codec_media.specs.Holding.{Holding}
 use Rattle.shared_codec.specs.Shared.{Shared}
 use Rattle.std.specs.Prelude.{IfOk}
 use Rattle.wc_base.specs.declared.seat.Passage.TheVariants.{Look}
@@ -16,11 +17,11 @@ pub leave-requires-clause-log : goal.leave-requires-clause-log
 leave-requires-clause-log g c =
     let s : Shared = record { id = c.self.inside.lock.id; codec = c.self.inside.lock.about.codec; opening = c.self.inside.lock.about.opening; calls = c.self.inside.lock.about.calls; pool = c.self.inside.lock.about.pool.value; slots = c.self.inside.lock.about.slots.value.id } in
     let e = c.enter-held.ensures.log in
-    let st : StandsAt s c.state.result.now.core e.log = subst (λ (x : Locked _). StandsAt s x.core e.log) (sym c.state.ensures.value) e.stands in
+    let st : StandsAt s c.state.result.now.core.value e.log = subst (λ (x : Locked _). StandsAt s x.core.value e.log) (sym c.state.ensures.value) e.stands in
     record {
       log = e.log;
       inside = inside_of e.log _ _ e.goes_in;
-      stands = stands_look s.codec s.opening s.calls s.pool s.slots _ c.state.result.now.core c.state.result.now.core e.log st refl st.held;
+      stands = stands_look s.codec s.opening s.calls s.pool s.slots _ c.state.result.now.core.value c.state.result.now.core.value e.log st refl st.held;
       has_claim = tt;
     }
 
@@ -28,10 +29,10 @@ pub returns-clause-next : goal.returns-clause-next
 returns-clause-next g c =
     let s : Shared = record { id = c.self.inside.lock.id; codec = c.self.inside.lock.about.codec; opening = c.self.inside.lock.about.opening; calls = c.self.inside.lock.about.calls; pool = c.self.inside.lock.about.pool.value; slots = c.self.inside.lock.about.slots.value.id } in
     let e = c.enter-held.ensures.log in
-    let st : StandsAt s c.state.result.now.core e.log = subst (λ (x : Locked _). StandsAt s x.core e.log) (sym c.state.ensures.value) e.stands in
+    let st : StandsAt s c.state.result.now.core.value e.log = subst (λ (x : Locked _). StandsAt s x.core.value e.log) (sym c.state.ensures.value) e.stands in
     let passes = passes_in _ _ Look c.args.seat.now c.enter-held.new.seat c.leave.new.seat e c.leave.ensures.log in
-    rw (← c.self.view_is) (saw s (λ log. IfOk c.next_in-next.result (NextIs s.opening (history_of log) (state_in s log).control)) Look c.args.seat.now c.leave.new.seat passes refl c.state.result.now.core st
-    (next_at s c.state.result.now.core _ e.log c.next_in-next.result st c.core.ensures c.next_in-next.ensures))
+    rw (← c.self.view_is) (saw s (λ log. IfOk c.next_in-next.result (NextIs s.opening (history_of log) (state_in s log).control)) Look c.args.seat.now c.leave.new.seat passes refl c.state.result.now.core.value st
+    (next_at s c.state.result.now.core.value _ e.log c.next_in-next.result st (c.core.ensures ∙ ap (λ (x : Holding). x.codec) c.deref.ensures) c.next_in-next.ensures))
 
 pub returns-clause-kept : goal.returns-clause-kept
 returns-clause-kept g c =

@@ -2,6 +2,7 @@ use Rattle.std.proofs.Common.{◌∙◌, ap, sym, subst}
 use Rattle.seat_lock.specs.Own.{inside_of}
 use Rattle.seat_lock.specs.Passages.{passage_of}
 use Rattle.codec_logs.specs.Logs.{acquires_of}
+use Rattle.codec_media.specs.Holding.{Holding}
 use Rattle.shared_codec.specs.declared.codec.Locked.{Locked}
 use Rattle.shared_codec.specs.Shared.{Shared}
 use Rattle.shared_codec.proofs.Stands.{StandsAt, nothing_spent, passes_in, keeps_passage}
@@ -10,20 +11,20 @@ use Rattle.shared_codec.proofs.codec.SharedCodec.take.Goals as goal
 
 pub passage_if-passage-requires-after_bounds : goal.passage_if-passage-requires-after_bounds
 passage_if-passage-requires-after_bounds g c κs within = λ made.
-    rw (c.core.ensures, c.state-2.ensures.value)
-    (take_some c.state.result.now.core c.take_in-place.new.core c.args.who c.args.number c.take_in-place.result c.take_in-place.ensures (sym c.has_taken-made.ensures ∙ made))
+    rw (c.core.ensures, c.deref.ensures, c.state-2.ensures.value)
+    (take_some c.deref_mut.result.now c.take_in-place.new.core c.args.who c.args.number c.take_in-place.result c.take_in-place.ensures (sym c.has_taken-made.ensures ∙ made))
 
 pub leave-requires-clause-log : goal.leave-requires-clause-log
 leave-requires-clause-log g c =
     let s : Shared = record { id = c.self.inside.lock.id; codec = c.self.inside.lock.about.codec; opening = c.self.inside.lock.about.opening; calls = c.self.inside.lock.about.calls; pool = c.self.inside.lock.about.pool.value; slots = c.self.inside.lock.about.slots.value.id } in
     let e = c.enter-held.ensures.log in
-    let st : StandsAt s c.state.result.now.core e.log = subst (λ (x : Locked _). StandsAt s x.core e.log) (sym c.state.ensures.value) e.stands in
+    let st : StandsAt s c.deref_mut.result.now e.log = subst (λ (x : Holding). StandsAt s x e.log) (sym c.deref_mut.ensures.value) (subst (λ (x : Locked _). StandsAt s x.core.value e.log) (sym c.state.ensures.value) e.stands) in
     let n = c.enter-held.new.seat.me.0.number in
-    let is = rw (c.has_taken-made.ensures, c.core.ensures, c.state-2.ensures.value) at c.passage_if-passage.ensures in
+    let is = rw (c.has_taken-made.ensures, c.core.ensures, c.deref.ensures, c.state-2.ensures.value) at c.passage_if-passage.ensures in
     record {
       log = e.log;
       inside = inside_of e.log _ _ e.goes_in;
-      stands = rw c.state-2.ensures.value (stands_take s.codec s.opening s.calls s.pool s.slots n c.args.who c.args.number c.take_in-place.result c.state.result.now.core c.take_in-place.new.core e.log _ c.no_acquires.result (ap acquires_of c.no_acquires.ensures) c.take_in-place.ensures is st);
+      stands = rw c.state-2.ensures.value (stands_take s.codec s.opening s.calls s.pool s.slots n c.args.who c.args.number c.take_in-place.result c.deref_mut.result.now c.take_in-place.new.core e.log _ c.no_acquires.result (ap acquires_of c.no_acquires.ensures) c.take_in-place.ensures is st);
       has_claim = nothing_spent e.log _ _;
     }
 
@@ -31,12 +32,12 @@ pub returns-clause-taken : goal.returns-clause-taken
 returns-clause-taken g c =
     let s : Shared = record { id = c.self.inside.lock.id; codec = c.self.inside.lock.about.codec; opening = c.self.inside.lock.about.opening; calls = c.self.inside.lock.about.calls; pool = c.self.inside.lock.about.pool.value; slots = c.self.inside.lock.about.slots.value.id } in
     let e = c.enter-held.ensures.log in
-    let st : StandsAt s c.state.result.now.core e.log = subst (λ (x : Locked _). StandsAt s x.core e.log) (sym c.state.ensures.value) e.stands in
+    let st : StandsAt s c.deref_mut.result.now e.log = subst (λ (x : Holding). StandsAt s x e.log) (sym c.deref_mut.ensures.value) (subst (λ (x : Locked _). StandsAt s x.core.value e.log) (sym c.state.ensures.value) e.stands) in
     let n = c.args.seat.now.me.0.number in
-    let is = rw (c.has_taken-made.ensures, c.core.ensures, c.state-2.ensures.value) at c.passage_if-passage.ensures in
+    let is = rw (c.has_taken-made.ensures, c.core.ensures, c.deref.ensures, c.state-2.ensures.value) at c.passage_if-passage.ensures in
     let passes = passes_in _ _ (passage_of c.passage_if-passage.result) c.args.seat.now c.enter-held.new.seat c.leave.new.seat e c.leave.ensures.log in
-    let next = stands_take s.codec s.opening s.calls s.pool s.slots n c.args.who c.args.number c.take_in-place.result c.state.result.now.core c.take_in-place.new.core e.log _ c.no_acquires.result (ap acquires_of c.no_acquires.ensures) c.take_in-place.ensures is st in
-    rw (← c.self.view_is) (tells_take s c.args.who c.args.number c.take_in-place.result c.state.result.now.core c.take_in-place.new.core _ c.no_acquires.result c.args.seat.now c.leave.new.seat passes (ap acquires_of c.no_acquires.ensures) c.take_in-place.ensures is st next)
+    let next = stands_take s.codec s.opening s.calls s.pool s.slots n c.args.who c.args.number c.take_in-place.result c.deref_mut.result.now c.take_in-place.new.core e.log _ c.no_acquires.result (ap acquires_of c.no_acquires.ensures) c.take_in-place.ensures is st in
+    rw (← c.self.view_is) (tells_take s c.args.who c.args.number c.take_in-place.result c.deref_mut.result.now c.take_in-place.new.core _ c.no_acquires.result c.args.seat.now c.leave.new.seat passes (ap acquires_of c.no_acquires.ensures) c.take_in-place.ensures is st next)
 
 pub returns-clause-kept : goal.returns-clause-kept
 returns-clause-kept g c =
