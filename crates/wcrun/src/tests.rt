@@ -5,7 +5,7 @@ use std::alloc::Global;
 use std::process::Abort;
 use std::test::Fail;
 use wc_base::{MemFiles, MemSink, NoMemory};
-use wc_config::Role;
+use wc_config::{CodecId, Role};
 
 const ORDINARY: &str =
     "{\"codecs\":[{\"name\":\"d\",\"kind\":\"audio-decoder\"}],\"callers\":[{\"name\":\"a\",\"steps\":[
@@ -133,6 +133,10 @@ pub(crate) fn call_on(
     let mut coders = Vec::new(alloc);
     for role in [Role::Decode, Role::Encode] {
         for codec in all_codecs() {
+            // One coder has no box, so that its configure is refused.
+            if matches!(codec, CodecId::Alaw) {
+                continue;
+            }
             if let Some(kind) = kind_of(role, *codec) {
                 let coder = coder_box!(alloc, role, kind, Err(NoMemory)?);
                 coders.push(coder)?;
