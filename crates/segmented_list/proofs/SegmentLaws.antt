@@ -1,6 +1,6 @@
 -- Lists in segments, from their end and by their places.
-use Rattle.std.proofs.Common.{ℕ, zero, suc, ◌≡◌, ◌≤◌, ◌<◌, ◌+◌, ◌-◌, ◌*◌, ◌/◌, ◌%◌, List, [], ◌∷◌, ◌++◌, length, length-append, append-nil, inl, inr, refl, sym, ap, ◌∙◌, arith}
-use Rattle.std.specs.Prelude.{slice_get}
+use Rattle.std.proofs.Common.{ℕ, zero, suc, ◌≡◌, ◌≤◌, ◌<◌, ◌+◌, ◌-◌, ◌*◌, ◌/◌, ◌%◌, List, [], ◌∷◌, ◌++◌, length, length-append, append-nil, append_assoc, inl, inr, refl, sym, ap, ◌∙◌, arith}
+use Rattle.std.specs.Prelude.{slice_get, slice_index_or, slice_set}
 use Rattle.std.proofs.lemmas.Bool.{cases_lt}
 use Rattle.std.proofs.lemmas.Option.{slice_get_past}
 use Rattle.segmented_list.specs.Segments.{Run, AreCut, joined, item_in}
@@ -14,6 +14,25 @@ abbrev pub IsLast : {X : Type 0} → ℕ → Run X → Type 0
 IsLast place r = (r.first ≡ place) × (1 ≤ length r.items) × (length r.items ≤ 1024)
 
 -- ---- from the end
+
+-- a list whose item at n is its last one
+pub last_at : {X : Type 0} (xs : List X) (n : ℕ) (q : X) → length xs ≡ suc n → q ≡ slice_index_or xs n q → (ys : List X) × (xs ≡ ys ++ q ∷ []) × ((y : X) → slice_set xs n y ≡ ys ++ y ∷ [])
+last_at [] n q h is = absurd (omega (arith, h))
+last_at (x ∷ []) zero q h is = ([], ap (λ z. z ∷ []) (sym is), λ y. refl)
+last_at (x ∷ []) (suc n) q h is = absurd (omega (arith, h))
+last_at (x ∷ x2 ∷ xs) zero q h is = absurd (omega (arith, h))
+last_at (x ∷ x2 ∷ xs) (suc n) q h is =
+    let m = last_at (x2 ∷ xs) n q (omega (arith, h)) is in
+    (x ∷ m.0, ap (λ zs. x ∷ zs) m.1, λ y. ap (λ zs. x ∷ zs) (m.2 y))
+
+-- one more item in the last segment
+pub joined_more : {X : Type 0} (rs : List (Run X)) (n : ℕ) (q r : Run X) (x : X) → length rs ≡ suc n → q ≡ slice_index_or rs n q → r.items ≡ q.items ++ x ∷ [] → joined (slice_set rs n r) ≡ joined rs ++ x ∷ []
+joined_more [] n q r x h is more = absurd (omega (arith, h))
+joined_more {X = X} (p ∷ []) zero q r x h is more = append-nil r.items ∙ (more ∙ ap (λ (z : Run X). z.items ++ x ∷ []) is ∙ ap (λ zs. zs ++ x ∷ []) (sym (append-nil p.items)))
+joined_more (p ∷ []) (suc n) q r x h is more = absurd (omega (arith, h))
+joined_more (p ∷ p2 ∷ ps) zero q r x h is more = absurd (omega (arith, h))
+joined_more (p ∷ p2 ∷ ps) (suc n) q r x h is more =
+    ap (λ zs. p.items ++ zs) (joined_more (p2 ∷ ps) n q r x (omega (arith, h)) is more) ∙ sym (append_assoc p.items (joined (p2 ∷ ps)) (x ∷ []))
 
 pub full_joined : {X : Type 0} (p : ℕ) (rs : List (Run X)) → AreFull p rs → length (joined rs) ≡ 1024 * length rs
 full_joined p [] h = refl

@@ -62,9 +62,8 @@ fn push_last<T>(segments: &mut Vec<Segment<T>>, item: T)
     ensures len { vec_len segments.new ≡ vec_len segments.old }
     ensures capacity { vec_capacity segments.new ≡ vec_capacity segments.old }
 {
-    let mut last = segments.take_last();
-    last.push(item);
-    segments.push_reserved(last);
+    let last = segments.len() - 1;
+    segments[last].push(item);
 }
 
 /// One more segment with one item behind segments that are full.
