@@ -2,7 +2,7 @@
 
 use crate::notes::Notes;
 use crate::places::{begin_at, say_step_word};
-use crate::rules::{Form, MOST_RULES, Wanted, rule_of};
+use crate::rules::{Form, ITEM_WORDS, Wanted, rules_of};
 use crate::scan::{byte_at, find_member, inside, next_item, string_at};
 use crate::script::Script;
 use script_types::Place;
@@ -77,25 +77,22 @@ pub fn unknown_in_step(
     let Some(form) = script.form_of(step) else {
         return Ok(());
     };
-    for n in 0..MOST_RULES {
-        let Some(rule) = rule_of(form, n) else {
-            break;
-        };
-        let Some(at) = find_member(script.text, step, rule.name.as_bytes()) else {
+    for rule in rules_of(form) {
+        let Some(at) = find_member(script.text, step, rule.name().as_bytes()) else {
             continue;
         };
         let Some(name) = string_at(script.text, at) else {
             continue;
         };
-        match rule.wanted {
+        match rule.wanted() {
             Wanted::Codec | Wanted::Decoder | Wanted::Encoder => {
                 if script.find_codec(name, 64).is_none() {
-                    return no_codec(notes, script, place, at, rule.name);
+                    return no_codec(notes, script, place, at, rule.name());
                 }
             }
             Wanted::Chunk | Wanted::Audio | Wanted::Medium | Wanted::Copied | Wanted::Promise => {
                 if script.find_variable(i, name, j).is_none() {
-                    return no_variable(notes, script, place, at, rule.name);
+                    return no_variable(notes, script, place, at, rule.name());
                 }
             }
             _ => {}
@@ -120,11 +117,9 @@ pub fn unknown_in_item(
         list(notes, script, script.callers())?;
         return notes.end();
     }
-    for n in 0..4 {
-        if let Some(rule) = rule_of(Form::Item, n) {
-            if let Some(at) = find_member(text, item, rule.name.as_bytes()) {
-                return no_codec(notes, script, place, at, rule.name);
-            }
+    for word in ITEM_WORDS {
+        if let Some(at) = find_member(text, item, word.as_bytes()) {
+            return no_codec(notes, script, place, at, word);
         }
     }
     Ok(())

@@ -26,12 +26,29 @@ pub enum Wanted {
     Array,
 }
 
+/// Whether an object has to have a member.
+#[derive(Clone, Copy, PartialEq, Eq)]
+enum Need {
+    Must,
+    May,
+}
+
 /// A member that an object may have, or has to have.
 #[derive(Clone, Copy)]
-pub struct Rule {
-    pub name: &'static str,
-    pub wanted: Wanted,
-    pub needed: bool,
+pub struct Rule(&'static str, Wanted, Need);
+
+impl Rule {
+    pub fn name(&self) -> &'static str {
+        self.0
+    }
+
+    pub fn wanted(&self) -> Wanted {
+        self.1
+    }
+
+    pub fn is_needed(&self) -> bool {
+        self.2 == Need::Must
+    }
 }
 
 /// An object of a script.
@@ -62,175 +79,167 @@ pub enum Form {
     Plane,
 }
 
-const fn need(name: &'static str, wanted: Wanted) -> Rule {
-    Rule {
-        name,
-        wanted,
-        needed: true,
-    }
-}
+const SCRIPT: [Rule; 3] = [
+    Rule("codecs", Wanted::Array, Need::Must),
+    Rule("callers", Wanted::Array, Need::Must),
+    Rule("order", Wanted::Array, Need::Must),
+];
 
-const fn may(name: &'static str, wanted: Wanted) -> Rule {
-    Rule {
-        name,
-        wanted,
-        needed: false,
-    }
-}
+const CODEC: [Rule; 3] = [
+    Rule("name", Wanted::Fresh, Need::Must),
+    Rule("kind", Wanted::Kind, Need::Must),
+    Rule("saturation", Wanted::Saturation, Need::May),
+];
 
-/// The members of an object, by their numbers; of `config`, `init` and `options` those of all kinds.
-pub fn rule_of(form: Form, n: usize) -> Option<Rule> {
+const CALLER: [Rule; 2] = [
+    Rule("name", Wanted::Fresh, Need::Must),
+    Rule("steps", Wanted::Array, Need::Must),
+];
+
+const ITEM: [Rule; 5] = [
+    Rule("start", Wanted::Codec, Need::May),
+    Rule("done", Wanted::Codec, Need::May),
+    Rule("turn", Wanted::Codec, Need::May),
+    Rule("reclaim", Wanted::Codec, Need::May),
+    Rule("at", Wanted::Natural, Need::May),
+];
+
+const CONFIG: [Rule; 9] = [
+    Rule("codec", Wanted::Text, Need::May),
+    Rule("sampleRate", Wanted::Integer, Need::May),
+    Rule("numberOfChannels", Wanted::Integer, Need::May),
+    Rule("description", Wanted::Hex, Need::May),
+    Rule("flac", Wanted::Object, Need::May),
+    Rule("codedWidth", Wanted::Integer, Need::May),
+    Rule("codedHeight", Wanted::Integer, Need::May),
+    Rule("displayAspectWidth", Wanted::Integer, Need::May),
+    Rule("displayAspectHeight", Wanted::Integer, Need::May),
+];
+
+const FLAC: [Rule; 3] = [
+    Rule("blockSize", Wanted::Integer, Need::May),
+    Rule("compressLevel", Wanted::Integer, Need::May),
+    Rule("bitsPerSample", Wanted::Integer, Need::May),
+];
+
+const INIT: [Rule; 10] = [
+    Rule("type", Wanted::Text, Need::May),
+    Rule("timestamp", Wanted::Integer, Need::May),
+    Rule("duration", Wanted::Integer, Need::May),
+    Rule("data", Wanted::Hex, Need::May),
+    Rule("format", Wanted::Text, Need::May),
+    Rule("sampleRate", Wanted::Integer, Need::May),
+    Rule("numberOfFrames", Wanted::Integer, Need::May),
+    Rule("numberOfChannels", Wanted::Integer, Need::May),
+    Rule("codedWidth", Wanted::Integer, Need::May),
+    Rule("codedHeight", Wanted::Integer, Need::May),
+];
+
+const OPTIONS: [Rule; 6] = [
+    Rule("planeIndex", Wanted::Integer, Need::May),
+    Rule("frameOffset", Wanted::Integer, Need::May),
+    Rule("frameCount", Wanted::Integer, Need::May),
+    Rule("format", Wanted::Text, Need::May),
+    Rule("rect", Wanted::Object, Need::May),
+    Rule("layout", Wanted::Array, Need::May),
+];
+
+const RECT: [Rule; 4] = [
+    Rule("x", Wanted::Integer, Need::May),
+    Rule("y", Wanted::Integer, Need::May),
+    Rule("width", Wanted::Integer, Need::May),
+    Rule("height", Wanted::Integer, Need::May),
+];
+
+const PLANE: [Rule; 2] = [
+    Rule("offset", Wanted::Integer, Need::May),
+    Rule("stride", Wanted::Integer, Need::May),
+];
+
+const CONFIGURE: [Rule; 2] = [
+    Rule("on", Wanted::Codec, Need::Must),
+    Rule("config", Wanted::Object, Need::Must),
+];
+
+const CHUNK: [Rule; 4] = [
+    Rule("as", Wanted::Fresh, Need::Must),
+    Rule("init", Wanted::Object, Need::May),
+    Rule("file", Wanted::Text, Need::May),
+    Rule("index", Wanted::Natural, Need::May),
+];
+
+const DECODE: [Rule; 2] = [
+    Rule("on", Wanted::Decoder, Need::Must),
+    Rule("chunk", Wanted::Chunk, Need::Must),
+];
+
+const MAKE: [Rule; 2] = [
+    Rule("as", Wanted::Fresh, Need::Must),
+    Rule("init", Wanted::Object, Need::Must),
+];
+
+const ENCODE: [Rule; 2] = [
+    Rule("on", Wanted::Encoder, Need::Must),
+    Rule("data", Wanted::Audio, Need::Must),
+];
+
+const FLUSH_OR_TAKE: [Rule; 2] = [
+    Rule("on", Wanted::Codec, Need::Must),
+    Rule("as", Wanted::Fresh, Need::Must),
+];
+
+const LOOK: [Rule; 1] = [Rule("promise", Wanted::Promise, Need::Must)];
+
+const ON: [Rule; 1] = [Rule("on", Wanted::Codec, Need::Must)];
+
+const HAND: [Rule; 2] = [
+    Rule("of", Wanted::Medium, Need::Must),
+    Rule("as", Wanted::Fresh, Need::Must),
+];
+
+const CLOSE_DATA: [Rule; 1] = [Rule("of", Wanted::Medium, Need::Must)];
+
+const COPY: [Rule; 3] = [
+    Rule("of", Wanted::Copied, Need::Must),
+    Rule("size", Wanted::Size, Need::Must),
+    Rule("options", Wanted::Object, Need::May),
+];
+
+const SIZE: [Rule; 2] = [
+    Rule("of", Wanted::Medium, Need::Must),
+    Rule("options", Wanted::Object, Need::May),
+];
+
+/// The members of an object, in order; of `config`, `init` and `options` those of all kinds.
+pub fn rules_of(form: Form) -> &'static [Rule] {
     match form {
-        Form::Script => script_rule(n),
-        Form::Codec => codec_rule(n),
-        Form::Caller => caller_rule(n),
-        Form::Item => item_rule(n),
-        Form::Config => config_rule(n),
-        Form::Flac => flac_rule(n),
-        Form::Init => init_rule(n),
-        Form::Options => options_rule(n),
-        Form::Rect => rect_rule(n),
-        Form::Plane => plane_rule(n),
-        _ => step_rule(form, n),
+        Form::Script => &SCRIPT,
+        Form::Codec => &CODEC,
+        Form::Caller => &CALLER,
+        Form::Item => &ITEM,
+        Form::Config => &CONFIG,
+        Form::Flac => &FLAC,
+        Form::Init => &INIT,
+        Form::Options => &OPTIONS,
+        Form::Rect => &RECT,
+        Form::Plane => &PLANE,
+        Form::Configure => &CONFIGURE,
+        Form::Chunk => &CHUNK,
+        Form::Decode => &DECODE,
+        Form::Make => &MAKE,
+        Form::Encode => &ENCODE,
+        Form::Flush | Form::Take => &FLUSH_OR_TAKE,
+        Form::Look => &LOOK,
+        Form::On => &ON,
+        Form::Hand => &HAND,
+        Form::CloseData => &CLOSE_DATA,
+        Form::Copy => &COPY,
+        Form::Size => &SIZE,
     }
 }
 
-fn script_rule(n: usize) -> Option<Rule> {
-    match n {
-        0 => Some(need("codecs", Wanted::Array)),
-        1 => Some(need("callers", Wanted::Array)),
-        2 => Some(need("order", Wanted::Array)),
-        _ => None,
-    }
-}
-
-fn codec_rule(n: usize) -> Option<Rule> {
-    match n {
-        0 => Some(need("name", Wanted::Fresh)),
-        1 => Some(need("kind", Wanted::Kind)),
-        2 => Some(may("saturation", Wanted::Saturation)),
-        _ => None,
-    }
-}
-
-fn caller_rule(n: usize) -> Option<Rule> {
-    match n {
-        0 => Some(need("name", Wanted::Fresh)),
-        1 => Some(need("steps", Wanted::Array)),
-        _ => None,
-    }
-}
-
-fn item_rule(n: usize) -> Option<Rule> {
-    match n {
-        0 => Some(may("start", Wanted::Codec)),
-        1 => Some(may("done", Wanted::Codec)),
-        2 => Some(may("turn", Wanted::Codec)),
-        3 => Some(may("reclaim", Wanted::Codec)),
-        4 => Some(may("at", Wanted::Natural)),
-        _ => None,
-    }
-}
-
-fn step_rule(form: Form, n: usize) -> Option<Rule> {
-    match (form, n) {
-        (Form::Configure, 0) => Some(need("on", Wanted::Codec)),
-        (Form::Configure, 1) => Some(need("config", Wanted::Object)),
-        (Form::Chunk, 0) => Some(need("as", Wanted::Fresh)),
-        (Form::Chunk, 1) => Some(may("init", Wanted::Object)),
-        (Form::Chunk, 2) => Some(may("file", Wanted::Text)),
-        (Form::Chunk, 3) => Some(may("index", Wanted::Natural)),
-        (Form::Decode, 0) => Some(need("on", Wanted::Decoder)),
-        (Form::Decode, 1) => Some(need("chunk", Wanted::Chunk)),
-        (Form::Make, 0) => Some(need("as", Wanted::Fresh)),
-        (Form::Make, 1) => Some(need("init", Wanted::Object)),
-        (Form::Encode, 0) => Some(need("on", Wanted::Encoder)),
-        (Form::Encode, 1) => Some(need("data", Wanted::Audio)),
-        (Form::Look, 0) => Some(need("promise", Wanted::Promise)),
-        (Form::Flush | Form::Take | Form::On, 0) => Some(need("on", Wanted::Codec)),
-        (Form::Flush | Form::Take, 1) => Some(need("as", Wanted::Fresh)),
-        (Form::Hand | Form::CloseData | Form::Size, 0) => Some(need("of", Wanted::Medium)),
-        (Form::Hand, 1) => Some(need("as", Wanted::Fresh)),
-        (Form::Size, 1) => Some(may("options", Wanted::Object)),
-        (Form::Copy, 0) => Some(need("of", Wanted::Copied)),
-        (Form::Copy, 1) => Some(need("size", Wanted::Size)),
-        (Form::Copy, 2) => Some(may("options", Wanted::Object)),
-        _ => None,
-    }
-}
-
-fn config_rule(n: usize) -> Option<Rule> {
-    match n {
-        0 => Some(may("codec", Wanted::Text)),
-        1 => Some(may("sampleRate", Wanted::Integer)),
-        2 => Some(may("numberOfChannels", Wanted::Integer)),
-        3 => Some(may("description", Wanted::Hex)),
-        4 => Some(may("flac", Wanted::Object)),
-        5 => Some(may("codedWidth", Wanted::Integer)),
-        6 => Some(may("codedHeight", Wanted::Integer)),
-        7 => Some(may("displayAspectWidth", Wanted::Integer)),
-        8 => Some(may("displayAspectHeight", Wanted::Integer)),
-        _ => None,
-    }
-}
-
-fn flac_rule(n: usize) -> Option<Rule> {
-    match n {
-        0 => Some(may("blockSize", Wanted::Integer)),
-        1 => Some(may("compressLevel", Wanted::Integer)),
-        2 => Some(may("bitsPerSample", Wanted::Integer)),
-        _ => None,
-    }
-}
-
-fn init_rule(n: usize) -> Option<Rule> {
-    match n {
-        0 => Some(may("type", Wanted::Text)),
-        1 => Some(may("timestamp", Wanted::Integer)),
-        2 => Some(may("duration", Wanted::Integer)),
-        3 => Some(may("data", Wanted::Hex)),
-        4 => Some(may("format", Wanted::Text)),
-        5 => Some(may("sampleRate", Wanted::Integer)),
-        6 => Some(may("numberOfFrames", Wanted::Integer)),
-        7 => Some(may("numberOfChannels", Wanted::Integer)),
-        8 => Some(may("codedWidth", Wanted::Integer)),
-        9 => Some(may("codedHeight", Wanted::Integer)),
-        _ => None,
-    }
-}
-
-fn options_rule(n: usize) -> Option<Rule> {
-    match n {
-        0 => Some(may("planeIndex", Wanted::Integer)),
-        1 => Some(may("frameOffset", Wanted::Integer)),
-        2 => Some(may("frameCount", Wanted::Integer)),
-        3 => Some(may("format", Wanted::Text)),
-        4 => Some(may("rect", Wanted::Object)),
-        5 => Some(may("layout", Wanted::Array)),
-        _ => None,
-    }
-}
-
-fn rect_rule(n: usize) -> Option<Rule> {
-    match n {
-        0 => Some(may("x", Wanted::Integer)),
-        1 => Some(may("y", Wanted::Integer)),
-        2 => Some(may("width", Wanted::Integer)),
-        3 => Some(may("height", Wanted::Integer)),
-        _ => None,
-    }
-}
-
-fn plane_rule(n: usize) -> Option<Rule> {
-    match n {
-        0 => Some(may("offset", Wanted::Integer)),
-        1 => Some(may("stride", Wanted::Integer)),
-        _ => None,
-    }
-}
-
-/// The most members that an object has.
-pub const MOST_RULES: usize = 10;
+/// What an item of the order does with a codec.
+pub const ITEM_WORDS: [&str; 4] = ["start", "done", "turn", "reclaim"];
 
 /// The words of `do`, with commas.
 pub const STEP_WORDS: &str =

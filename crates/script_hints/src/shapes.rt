@@ -2,7 +2,7 @@
 
 use crate::notes::Notes;
 use crate::places::{begin_at, say_step_word};
-use crate::rules::{Form, MOST_RULES, Rule, STEP_WORDS, Wanted, rule_of, words_of};
+use crate::rules::{Form, ITEM_WORDS, Rule, STEP_WORDS, Wanted, rules_of, words_of};
 use crate::scan::{byte_at, find_member, inside, next_start, past_value, string_at};
 use crate::script::Script;
 use crate::values::{Owner, is_name, may_stand};
@@ -45,21 +45,21 @@ fn tell_met(
     rule: Rule,
 ) -> Result<(), AllocError> {
     begin_at(notes, script, place, at)?;
-    notes.member(rule.name)?;
+    notes.member(rule.name())?;
     notes.say(" is ")?;
     notes.met(at)?;
     if let Some(name) = string_at(script.text, at) {
         if is_name(name) {
-            say_named(notes, script, owner, name, rule.wanted)?;
+            say_named(notes, script, owner, name, rule.wanted())?;
         } else if !matches!(
-            rule.wanted,
+            rule.wanted(),
             Wanted::Kind | Wanted::Hex | Wanted::Text | Wanted::Object | Wanted::Array
         ) {
             notes.say(", and a name has 1 to 32 of a to z, 0 to 9, _ and -")?;
         }
     }
     notes.say("; ")?;
-    notes.say(words_of(rule.wanted))?;
+    notes.say(words_of(rule.wanted()))?;
     notes.say(" is wanted")?;
     notes.end()
 }
@@ -72,9 +72,9 @@ fn tell_missing(
     rule: Rule,
 ) -> Result<(), AllocError> {
     begin_at(notes, script, place, object)?;
-    notes.member(rule.name)?;
+    notes.member(rule.name())?;
     notes.say(" is missing; ")?;
-    notes.say(words_of(rule.wanted))?;
+    notes.say(words_of(rule.wanted()))?;
     notes.say(" is wanted")?;
     notes.end()
 }
@@ -88,20 +88,17 @@ fn members_of(
     object: usize,
     form: Form,
 ) -> Result<bool, AllocError> {
-    for n in 0..MOST_RULES {
-        let Some(rule) = rule_of(form, n) else {
-            break;
-        };
-        match find_member(script.text, object, rule.name.as_bytes()) {
+    for rule in rules_of(form) {
+        match find_member(script.text, object, rule.name().as_bytes()) {
             Some(at) => {
-                if !may_stand(script, owner, at, rule.wanted) {
-                    tell_met(notes, script, owner, place, at, rule)?;
+                if !may_stand(script, owner, at, rule.wanted()) {
+                    tell_met(notes, script, owner, place, at, *rule)?;
                     return Ok(true);
                 }
             }
             None => {
-                if rule.needed {
-                    tell_missing(notes, script, place, object, rule)?;
+                if rule.is_needed() {
+                    tell_missing(notes, script, place, object, *rule)?;
                     return Ok(true);
                 }
             }
@@ -293,12 +290,10 @@ pub fn head(
 fn words_in(text: &[u8], at: usize) -> (usize, bool) {
     let mut count: usize = 0;
     let mut timed = false;
-    for n in 0..4 {
-        if let Some(rule) = rule_of(Form::Item, n) {
-            if find_member(text, at, rule.name.as_bytes()).is_some() {
-                count = count.saturating_add(1);
-                timed = timed || matches!(rule.name, "done" | "reclaim");
-            }
+    for word in ITEM_WORDS {
+        if find_member(text, at, word.as_bytes()).is_some() {
+            count = count.saturating_add(1);
+            timed = timed || matches!(word, "done" | "reclaim");
         }
     }
     (count, timed)

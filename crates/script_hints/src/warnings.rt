@@ -1,7 +1,7 @@
 // Members that no rule knows.
 
 use crate::notes::Notes;
-use crate::rules::{Form, MOST_RULES, form_of_word, rule_of};
+use crate::rules::{Form, form_of_word, rules_of};
 use crate::scan::{
     Name, byte_at, find_member, inside, next_name, next_start, past_blanks, past_value, string_at,
 };
@@ -11,17 +11,9 @@ use std::alloc::AllocError;
 const MOST_LINES: usize = 20;
 
 fn is_known(form: Form, name: &[u8]) -> bool {
-    for n in 0..MOST_RULES {
-        match rule_of(form, n) {
-            Some(rule) => {
-                if rule.name.as_bytes() == name {
-                    return true;
-                }
-            }
-            None => return false,
-        }
-    }
-    false
+    rules_of(form)
+        .iter()
+        .any(|rule| rule.name().as_bytes() == name)
 }
 
 // The word of a step and what it has. The word stands first in most steps, which are then read once.

@@ -28,12 +28,14 @@ fn replayed<F: Files, C: Coder>(
     files: &mut F,
     coders: Vec<C>,
 ) -> Result<Replayed, Stop<Fault>>
-    ensures ok { IfOk result (λ d. IsRunOf (reading (to_replay name.now) (F.content files.old) (F.faults files.old)
-        (F.faults files.new) (F.bytes_read files.old) (F.bytes_read files.new)
+    ensures ok { IfOk result (λ d. IsRunOf (reading (to_replay name.now) (F.content files.old)
+        (F.faults files.old) (F.faults files.new)
+        (F.bytes_read files.old) (F.bytes_read files.new)
         (F.failed_names files.old) (F.failed_names files.new)) (map C.coder coders.items)
         (record { script = d.prepared.script; media = d.prepared.media.items }) d.run) }
-    ensures stop { IfErr result (λ e. MayStop (reading (to_replay name.now) (F.content files.old) (F.faults files.old)
-        (F.faults files.new) (F.bytes_read files.old) (F.bytes_read files.new)
+    ensures stop { IfErr result (λ e. MayStop (reading (to_replay name.now) (F.content files.old)
+        (F.faults files.old) (F.faults files.new)
+        (F.bytes_read files.old) (F.bytes_read files.new)
         (F.failed_names files.old) (F.failed_names files.new)) e) }
 {
     let prepared = prepare(alloc, name, files)?;

@@ -59,7 +59,8 @@ fn read_named<F: Files>(alloc: Global, name: &str, files: &mut F) -> Result<Scri
         (λ s. IfSome (F.content files.old)
         (λ held. IsSomeAnd (held name.now) (λ bytes. playable_of bytes ≡ Ok s))) }
     ensures order { IfOk result (λ s. IsSome s.order) }
-    ensures stop { IfErr result (λ e. MayStop (reading (to_replay name.now) (F.content files.old) (F.faults files.old) (F.faults files.new)
+    ensures stop { IfErr result (λ e. MayStop (reading (to_replay name.now) (F.content files.old)
+        (F.faults files.old) (F.faults files.new)
         (F.bytes_read files.old) (F.bytes_read files.new)
         (F.failed_names files.old) (F.failed_names files.new)) e) }
     ensures names { FailedBy (F.failed_names files.old) (F.failed_names files.new) result }
@@ -109,7 +110,8 @@ fn read_chunk_files<F: Files>(
         Becomes held (Ok script.now) (Ok (Runs (record { script = script.now; media = m.items }))))) }
     ensures each { IfOk result (λ m. length m.items ≡ length script.now.chunk_files) }
     ensures there { IfOk result (λ m. missing_in script.now m.items ≡ None) }
-    ensures stop { IfErr result (λ e. MayStopFor (F.content files.old) script.now (F.faults files.old) (F.faults files.new)
+    ensures stop { IfErr result (λ e. MayStopFor (F.content files.old) script.now
+        (F.faults files.old) (F.faults files.new)
         (F.bytes_read files.old) (F.bytes_read files.new) e) }
     ensures names { FailedBy (F.failed_names files.old) (F.failed_names files.new) result }
 {
@@ -124,13 +126,16 @@ fn read_chunk_files<F: Files>(
 
 /// The script of the file with this name, and the chunks of its chunk files, where it can be replayed.
 pub fn prepare<F: Files>(alloc: Global, name: &str, files: &mut F) -> Result<Prepared, Stop<Fault>>
-    ensures ok { IfOk result (λ p. ComesTo (reading (to_replay name.now) (F.content files.old) (F.faults files.old) (F.faults files.new)
+    ensures ok { IfOk result (λ p. ComesTo (reading (to_replay name.now) (F.content files.old)
+        (F.faults files.old) (F.faults files.new)
         (F.bytes_read files.old) (F.bytes_read files.new)
-        (F.failed_names files.old) (F.failed_names files.new)) (Ok (Runs (record { script = p.script; media = p.media.items })))) }
+        (F.failed_names files.old) (F.failed_names files.new))
+        (Ok (Runs (record { script = p.script; media = p.media.items })))) }
     ensures order { IfOk result (λ p. IsSome p.script.order) }
     ensures each { IfOk result (λ p. length p.media.items ≡ length p.script.chunk_files) }
     ensures there { IfOk result (λ p. missing_in p.script p.media.items ≡ None) }
-    ensures stop { IfErr result (λ e. MayStop (reading (to_replay name.now) (F.content files.old) (F.faults files.old) (F.faults files.new)
+    ensures stop { IfErr result (λ e. MayStop (reading (to_replay name.now) (F.content files.old)
+        (F.faults files.old) (F.faults files.new)
         (F.bytes_read files.old) (F.bytes_read files.new)
         (F.failed_names files.old) (F.failed_names files.new)) e) }
 {
