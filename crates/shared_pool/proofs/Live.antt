@@ -1,9 +1,8 @@
 -- A live claim at the lock of a pool is a live reference.
-use Rattle.std.proofs.Common.{ℕ, ◌≡◌, ◌+◌, ◌==◌, Bool, true, false, cond, eqb, List, [], ◌∷◌, ◌++◌, Option, Some, None, refl, ap, sym, subst, ◌∙◌, append-nil, append_assoc, arith}
+use Rattle.std.proofs.Common.{ℕ, ◌≡◌, ◌+◌, ◌==◌, Bool, true, false, cond, List, [], ◌∷◌, ◌++◌, Option, Some, None, refl, ap, sym, subst, ◌∙◌, append-nil, append_assoc, arith}
 use Rattle.std.proofs.lemmas.Bool.{and_parts, and_from, eqb-true}
 use Rattle.std.proofs.lemmas.List.Sums.{fold_push, sum_by_push}
 use Rattle.wc_base.specs.Views.{Log}
-use Rattle.wc_base.specs.declared.seat.Passage.{Passage}
 use Rattle.wc_base.specs.declared.seat.Passage.TheVariants.{Made, Look}
 use Rattle.wc_pool.specs.declared.entry.PoolEntry.{PoolEntry}
 use Rattle.wc_pool.specs.declared.entry.PoolOp.TheVariants as op
@@ -12,8 +11,8 @@ use Rattle.wc_pool.specs.Bag.{resource_of, resource_after, mints, references_mad
 use Rattle.wc_pool.specs.declared.entry.PoolOp.{PoolOp}
 use Rattle.wc_pool.specs.Laws.{made_reference, MadeAreNew}
 use Rattle.std.specs.Prelude.{if◌then◌else◌}
-use Rattle.seat_lock.specs.Logs.{entries_of, entry_in}
-use Rattle.seat_lock.specs.Claims.{is_claim, is_unspent, mint_count, mints_in, spends_in, IsLive}
+use Rattle.seat_lock.specs.Logs.{entries_of}
+use Rattle.seat_lock.specs.Claims.{is_claim, is_unspent, mint_count, IsLive}
 use Rattle.seat_lock.specs.ClaimLaws.{unclaimed, entries_both, unspent_rest}
 use Rattle.seat_lock.specs.Own.{entries_of-append}
 use Rattle.shared_pool.specs.Refs.{ends, KnowsRef}

@@ -24,7 +24,7 @@ use Rattle.seat_lock.specs.Since.{MadeSince}
 use Rattle.seat_lock.specs.SinceLaws.{made_by_passage, idle_after, token_since, idle_union}
 use Rattle.shared_pool.specs.declared.pool.LockedPool.{LockedPool}
 use Rattle.shared_pool.specs.Refs.{ends, IsPoolLog, IsPoolRef, KnowsRef}
-use Rattle.shared_pool.specs.Steps.{KnowsLive, MadeIn, NotMade, MakesIn, MakePassage, TakesRef, ClonePassage, ClonedIn, NotCloned, ClonesIn, EndsIn}
+use Rattle.shared_pool.specs.Steps.{MakesIn, MakePassage, TakesRef, ClonePassage, ClonesIn, EndsIn}
 use Rattle.shared_pool.proofs.Live.{live_ref, count_is}
 
 abbrev Sits : Type 0

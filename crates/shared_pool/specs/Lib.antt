@@ -1,2 +1,3 @@
+pub mod At
 pub mod Refs
 pub mod Steps

@@ -1,5 +1,5 @@
 -- What passages through the lock of a pool do with references.
-use Rattle.std.specs.Prelude.{ℕ, ◌≡◌, cond, Bool, List, [], ◌∷◌, ◌++◌, Option, Some, None, Result, Ok, Err}
+use Rattle.std.specs.Prelude.{◌≡◌, Bool, [], ◌∷◌, Option, Some, Result, Ok, Err}
 use Rattle.atomic_table.specs.Seated.{TableId}
 use Rattle.atomic_table.specs.declared.shared.Seat.{Seat}
 use Rattle.wc_base.specs.declared.error.NoMemory.{NoMemory}

@@ -19,29 +19,29 @@ pub struct PoolAt<'a, R> {
 }
 
 impl<'a, R> PoolAt<'a, R> {
-    /// A shared pool, at a seat of it that holds no claim.
+    ghost use Rattle.shared_pool.specs.At.{SitsAt};
+
+    /// A shared pool, at a seat of it that holds no claim. What is made with the one is made with the other.
     pub fn new(rt: &'a R, pool: &'a SharedPool, seat: &'a mut PoolSeat) -> PoolAt<'a, R>
         requires { IsFree pool.now seat.old }
+        ensures { SitsAt pool.now seat.entry result }
     {
         PoolAt { rt, pool, seat }
     }
 }
 
 impl<'a, R: Wait> RefPool for PoolAt<'a, R> {
-    ghost use Rattle.std.specs.Prelude.{[], ◌∷◌};
-    ghost use Rattle.shared_pool.specs.Refs.{IsPoolRef};
-    ghost use Rattle.std.specs.Prelude.{None};
+    ghost use Rattle.std.specs.Prelude.{[], None};
     ghost use Rattle.wc_pool.specs.Pools.{with_token};
-    ghost use Rattle.seat_lock.specs.Since.{MadeSince};
-    ghost use Rattle.seat_lock.specs.SinceLaws.{made_none};
+    ghost use Rattle.shared_pool.specs.At.{AddsAt, IsRefAt, MadeAt, at_none};
 
-    ghost is_of = { λ p r. IsPoolRef p.pool.now r };
+    ghost is_of = { IsRefAt };
 
-    ghost adds = { λ a b e. MadeSince a.seat.now.me.0 b.seat.now.me.0 (e ∷ []) };
+    ghost adds = { AddsAt };
 
-    ghost stays = { λ a b. MadeSince a.seat.now.me.0 b.seat.now.me.0 [] };
+    ghost stays = { MadeAt [] };
 
-    ghost rests = { λ p. made_none p.seat.now.me.0 };
+    ghost rests = { at_none };
 
     ghost lasting = { with_token None };
 

@@ -1,9 +1,8 @@
-use Rattle.std.proofs.Common.{List, sym, subst, ap}
-use Rattle.seat_lock.specs.Own.{inside_of, number_of, view_of_passage}
+use Rattle.std.proofs.Common.{sym, subst}
+use Rattle.seat_lock.specs.Own.{inside_of, view_of_passage}
 use Rattle.seat_lock.specs.Passages.{passage_of}
 use Rattle.wc_pool.specs.Bag.{mints}
 use Rattle.wc_pool.specs.Pools.{IsLive}
-use Rattle.wc_pool.specs.declared.entry.PoolEntry.{PoolEntry}
 use Rattle.wc_pool.specs.declared.reference.MediaRef.{MediaRef}
 use Rattle.shared_pool.specs.declared.pool.LockedPool.{LockedPool}
 use Rattle.shared_pool.specs.Refs.{ends, IsPoolLog}

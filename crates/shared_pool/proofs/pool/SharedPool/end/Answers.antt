@@ -1,4 +1,4 @@
-use Rattle.std.proofs.Common.{[], ◌∷◌, ap, subst}
+use Rattle.std.proofs.Common.{[], ◌∷◌, subst}
 use Rattle.std.specs.Prelude.{is_some}
 use Rattle.wc_pool.specs.Pools.{ended_by}
 use Rattle.wc_pool.specs.declared.reference.MediaRef.{MediaRef}

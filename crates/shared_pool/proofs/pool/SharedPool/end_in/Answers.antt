@@ -1,8 +1,6 @@
-use Rattle.std.proofs.Common.{◌≡◌, List, ℕ, sym, subst, ap, ◌∙◌, inl, refl}
+use Rattle.std.proofs.Common.{◌≡◌, sym, subst, ◌∙◌}
 use Rattle.std.specs.Prelude.{is_some}
 use Rattle.seat_lock.specs.Own.{inside_of, view_of_passage, claims_of}
-use Rattle.seat_lock.specs.Claims.{HasClaim, spends_in}
-use Rattle.wc_base.specs.Views.{Log}
 use Rattle.wc_base.specs.declared.seat.Passage.TheVariants.{Made}
 use Rattle.wc_pool.specs.Bag.{mints}
 use Rattle.wc_pool.specs.Pools.{Adds, ended_by}

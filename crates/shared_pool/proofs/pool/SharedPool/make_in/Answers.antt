@@ -1,4 +1,4 @@
-use Rattle.std.proofs.Common.{List, sym, subst, ap}
+use Rattle.std.proofs.Common.{sym, subst}
 use Rattle.seat_lock.specs.Own.{inside_of, view_of_passage}
 use Rattle.seat_lock.specs.Passages.{passage_of}
 use Rattle.wc_pool.specs.Bag.{mints}
