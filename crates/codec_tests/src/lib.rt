@@ -14,4 +14,6 @@ mod codec_model_tests;
 #[cfg(test)]
 mod codec_queues_tests;
 #[cfg(test)]
+mod reclaimer_tests;
+#[cfg(test)]
 mod slot_registry_tests;
