@@ -20,3 +20,4 @@ pub mod ResolveLaws
 pub mod SeenLaws
 pub mod BookLaws
 pub mod EqualLaws
+mod StuckLaws

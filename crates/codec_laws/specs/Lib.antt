@@ -4,3 +4,4 @@ pub mod Contents
 pub mod Laws
 pub mod Answers
 pub mod Seen
+pub mod Left

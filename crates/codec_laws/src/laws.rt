@@ -1,7 +1,8 @@
 // Laws of every legal history.
+ghost use Rattle.codec_laws.specs.Left.{NothingStuck};
 ghost use Rattle.codec_laws.specs.Laws.{NothingOld, IndexesRise, ContentsAreGiven, RemovalsReject, RejectedOnly, EndsOnce, ResolvedLast, SizeFalls, SameShown};
 
-use codec_model::never_stuck;
+use codec_model::{never_stuck, steps_leave_fewer};
 
 /// Law: nothing old is shown. Between the configure of an output's configuration and the turn that shows it stands the call
 /// that gave it, and no removal: no reset or close that is not refused, no reclaim, and no turn that closes the codec.
@@ -48,6 +49,16 @@ pub fn size_falls_between()
     ensures { SizeFalls }
 {
     never_stuck();
+}
+
+/// Law: nothing is stuck. While starts, ends of items or turns are left after a legal history, one of them may come next, with
+/// no want of a box or of memory, and each of them leaves fewer. None is left exactly where the codec is quiet: no item is
+/// queued or at work, and no task is queued. Then the promise of each flush has ended, and the size is 0.
+pub fn nothing_stuck()
+    ensures { NothingStuck }
+{
+    never_stuck();
+    steps_leave_fewer();
 }
 
 /// Law: two histories of one opening with the same calls, in which no removal stands and which end quiet, show the same

@@ -13,8 +13,9 @@ mod source;
 pub use answers::{output_configuration, output_source, promise_end};
 pub use falls::fall_between;
 pub use laws::{
-    contents_are_given, flushes_resolve_last, indexes_rise, nothing_old, promises_end_once,
-    rejected_only_by_removals, removals_reject, same_calls_show_the_same, size_falls_between,
+    contents_are_given, flushes_resolve_last, indexes_rise, nothing_old, nothing_stuck,
+    promises_end_once, rejected_only_by_removals, removals_reject, same_calls_show_the_same,
+    size_falls_between,
 };
 pub use same::same_shown;
 pub use seen::sights;
