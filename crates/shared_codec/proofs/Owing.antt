@@ -17,7 +17,7 @@ use Rattle.codec_media.specs.Holding.{ReplyValue, RemovedValue, TurnedValue, End
 use Rattle.codec_logs.specs.declared.event.Event.{Event}
 use Rattle.codec_logs.specs.Logs.{track}
 use Rattle.shared_codec.specs.Shared.{Shared, MadeIn, LookedIn, no_mint, no_spend}
-use Rattle.shared_codec.specs.Calls.{GaveIn, MayAlways, RepliedIn, CallTells, TurnTells, ReclaimTells}
+use Rattle.shared_codec.specs.Calls.{GaveIn, MayAlways, CallTells, TurnTells, ReclaimTells}
 use Rattle.shared_codec.specs.Dues.{OwedSince, slot_dues, media_dues, clones_at, ends_at, gives_of}
 use Rattle.shared_codec.specs.DueLaws.{owed_passage}
 use Rattle.shared_codec.specs.Jobs.{StartTells, DoneIn}

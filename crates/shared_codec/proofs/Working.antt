@@ -10,7 +10,7 @@ use Rattle.wc_base.specs.declared.seat.View.{View}
 use Rattle.wc_config.specs.declared.codec.CoderId.{CoderId}
 use Rattle.coder_api.specs.Lent.{Lent, stopped_lent}
 use Rattle.coder_api.specs.declared.slot.SlotEntry.{SlotEntry}
-use Rattle.codec_model.specs.declared.entry.{Opening.Opening, Entry.Entry, Call.Call}
+use Rattle.codec_model.specs.declared.entry.{Opening.Opening}
 use Rattle.codec_model.specs.declared.entry.Ended.TheVariants as ended
 use Rattle.codec_model.specs.Replay.{State}
 use Rattle.codec_accounts.specs.Boxes.{Holds, newer}
@@ -21,7 +21,6 @@ use Rattle.seat_lock.specs.Since.{MadeSince}
 use Rattle.seat_lock.specs.SinceLaws.{made_then}
 use Rattle.codec_logs.specs.declared.event.Event.{Event}
 use Rattle.codec_logs.specs.Logs.{track, box_of, BoxIs, AreAsked}
-use Rattle.shared_pool.specs.Refs.{AreOf}
 use Rattle.shared_slots.specs.Boxes.{Registry, IsOut, IfOut}
 use Rattle.shared_slots.specs.Steps.{went_out, refused, AcquiredAfter, RefusedAfter}
 use Rattle.shared_codec.specs.Dues.{DoFor, ends_at, gives_of, given_if, IsLater}
@@ -30,10 +29,8 @@ use Rattle.wc_pool.specs.Pools.{ended_by}
 use Rattle.wc_pool.specs.declared.entry.{PoolEntry.PoolEntry, PoolOp.PoolOp}
 use Rattle.wc_pool.specs.declared.reference.MediaRef.{MediaRef}
 use Rattle.wc_base.specs.declared.error.DomError.{DomError}
-use Rattle.wc_base.specs.declared.who.Who.{Who}
 use Rattle.codec_media.specs.Holding.{EndedValue, ReplyValue, RemovedValue, TurnedValue, pair_of}
 use Rattle.shared_codec.specs.Shared.{Shared, MayEndAt, HasJobAt}
-use Rattle.shared_codec.specs.Calls.{GaveIn, RepliedIn, TurnedIn}
 use Rattle.shared_codec.specs.Owes.{CallOwes, TurnOwes, ReclaimOwes, StartOwes, DoneOwes, owes_then}
 use Rattle.shared_codec.specs.Settles.{Settles, settles_rest, settles_back}
 use Rattle.shared_codec.specs.Jobs.{StartedIn, DoneIn}
