@@ -1,6 +1,6 @@
 -- What the locked value stands for after an encode.
-use Rattle.std.proofs.Common.{ℕ, ◌≡◌, ◌<◌, true, List, [], ◌∷◌, ◌++◌, length, Bool, Option, Some, ap, sym, subst, ◌∙◌, inr}
-use Rattle.std.specs.Prelude.{Result, Ok, Err}
+use Rattle.std.proofs.Common.{ℕ, ◌≡◌, ◌<◌, true, List, [], ◌∷◌, ◌++◌, length, map, Bool, Option, Some, ap, sym, subst, ◌∙◌, inr, append-nil}
+use Rattle.std.specs.Prelude.{Result, Ok, Err, OnOk, OnErr}
 use Rattle.std.specs.Result.{is_ok}
 use Rattle.atomic_table.specs.Seated.{TableId}
 use Rattle.atomic_table.specs.declared.shared.Seat.{Seat}
@@ -11,24 +11,31 @@ use Rattle.wc_base.specs.declared.who.Who.{Who}
 use Rattle.wc_base.specs.Views.{Log}
 use Rattle.wc_base.specs.declared.seat.Passage.{Passage}
 use Rattle.wc_base.specs.declared.seat.View.{View}
-use Rattle.wc_pool.specs.declared.entry.PoolEntry.{PoolEntry}
+use Rattle.wc_pool.specs.declared.entry.{PoolEntry.PoolEntry, PoolOp.PoolOp}
 use Rattle.wc_pool.specs.declared.reference.MediaRef.{MediaRef}
 use Rattle.wc_pool.specs.Pools.{cloned_by, ended_by}
-use Rattle.codec_model.specs.declared.entry.{Opening.Opening, Entry.Entry, Call.Call}
+use Rattle.codec_model.specs.declared.entry.{Opening.Opening, Entry.Entry, Call.Call, Handed.Handed, HeldSound.HeldSound, Pair.Pair}
+use Rattle.codec_model.specs.Held.{adds_held}
 use Rattle.codec_model.specs.Replay.{State, is_configured}
+use Rattle.codec_accounts.specs.Boxes.{act_of, lets_go_by}
 use Rattle.codec_media.specs.Holding.{Holding, ReplyValue}
 use Rattle.codec_core.specs.Codec.{state_at}
 use Rattle.seat_lock.specs.Passages.{Passes}
 use Rattle.seat_lock.specs.Since.{MadeSince}
-use Rattle.seat_lock.specs.SinceLaws.{made_then}
+use Rattle.seat_lock.specs.SinceLaws.{made_none, made_then}
 use Rattle.codec_logs.specs.declared.event.Acquires.{Acquires}
 use Rattle.codec_logs.specs.declared.event.Event.{Event}
-use Rattle.codec_logs.specs.Logs.{acquires_of}
+use Rattle.codec_logs.specs.Logs.{Track, acquires_of, box_of, track}
+use Rattle.shared_codec.specs.Calls.{RepliedIn}
+use Rattle.shared_codec.specs.Dues.{give_by, slot_dues, media_dues, clones_at, ends_at, DoFor}
+use Rattle.shared_codec.specs.Owes.{Owes}
+use Rattle.shared_codec.specs.Settles.{SettlesInPool}
 use Rattle.shared_codec.specs.Shared.{Shared, no_mint, no_spend, StandsFor, PassageIs}
-use Rattle.shared_codec.specs.Encodes.{NoneKept, EncodeTells}
+use Rattle.shared_codec.specs.Encodes.{Hands, NoneKept, EncodeTells}
 use Rattle.shared_codec.specs.Gives.{EncodeGives}
 use Rattle.shared_codec.proofs.Stands.{StandsAt, looked_in}
 use Rattle.shared_codec.proofs.Gave.{more_than, call_gives, stands_gave, stands_same, replied_in, full_at}
+use Rattle.shared_codec.proofs.Owing.{made_owes, look_owes}
 
 pub encode_some : (k : ℕ) (pool : TableId) (old new : Holding) (who : Who) (samples : Samples) (medium : MediaRef) (result : Result ReplyValue NoMemory) (v w : View PoolEntry) → EncodeGives k pool old new who samples medium result v w → is_ok result ≡ true → 0 < length new.codec.history
 encode_some k pool old new who samples medium (Ok r) v w gives made = more_than old.codec new.codec (Entry.Call who (Call.Encode gives.given)) gives.calls.replied.made
@@ -62,3 +69,35 @@ module _ {S : Type 0} (s : Shared) where
     none = subst (λ (h : List Entry). NoneKept s.codec (length h) v w) st.history gives.1;
     full = λ idle. full_at s old passes.log st (gives.2 (ap (λ (t : State). is_configured t.control) st.state ∙ idle));
   }
+
+  -- what an encode that was made calls for, which was done
+  encoded_settles : (who : Who) (samples : Samples) (medium : MediaRef) (r : ReplyValue) (given : Handed) (a c : Seat (Option S) (View Event)) (v w : View PoolEntry) → RepliedIn s who (Call.Encode given) r a c → Hands s.codec r.place samples medium given v w → SettlesInPool s a.me.0 c.me.0 v w
+  encoded_settles who samples medium r given a c v w replied hands = λ u.
+      let e : Entry = Entry.Call who (Call.Encode given) in
+      let m = replied.gave.made in
+      let x : Track = track s.opening m.passes.log in
+      let none : slot_dues s.codec m.event x ≡ [] = (λ i. m.acquires_are i ++ map (give_by s.codec x.holds.place) (lets_go_by (act_of (m.entry_is i) x.state) (box_of (m.acquires_are i)) x.holds)) in
+      let clones : media_dues s.codec m.event x ≡ clones_at r.place (adds_held e) = replied.gave.ends ∙ (ap (λ (l : List Pair). clones_at r.place (adds_held e) ++ ends_at r.place l) replied.gave.pairs ∙ append-nil (clones_at r.place (adds_held e))) in
+      let done = made given hands in
+      record {
+        entries = [];
+        calls = clones_at r.place (adds_held e);
+        owes = made_owes s e [] [] (clones_at r.place (adds_held e)) a c m none clones;
+        made = made_none u;
+        does = done.0;
+        pool = done.1;
+        are = done.2;
+      }
+    where
+      made : (given : Handed) → Hands s.codec r.place samples medium given v w → (es : List PoolEntry) × MadeSince v w es × DoFor s.codec (clones_at r.place (adds_held (Entry.Call who (Call.Encode given)))) es
+      made (Handed.Cloned sound) h = (cloned_by (by.Codec s.codec r.place) h.0 ∷ [], h.3, (ap (λ (z : HeldSound). record { by = by.Codec s.codec r.place; op = PoolOp.Clone z.pair.resource z.pair.reference }) (sym h.2), tt))
+      made Handed.Kept h = ([], h, tt)
+      made Handed.Gone h = absurd h
+
+  pub encode_settles : (who : Who) (samples : Samples) (medium : MediaRef) (result : Result ReplyValue NoMemory) (a c : Seat (Option S) (View Event)) (v w : View PoolEntry) → EncodeTells s who samples medium result a c v w → OnOk result (SettlesInPool s a.me.0 c.me.0 v w)
+  encode_settles who samples medium (Ok r) a c v w told = encoded_settles who samples medium r told.given a c v w told.replied told.hands
+  encode_settles who samples medium (Err e) a c v w told = tt
+
+  pub wanted_owes : (who : Who) (samples : Samples) (medium : MediaRef) (result : Result ReplyValue NoMemory) (a c : Seat (Option S) (View Event)) (v w : View PoolEntry) → EncodeTells s who samples medium result a c v w → OnErr result (Owes s [] [] a.me.0 c.me.0)
+  wanted_owes who samples medium (Ok r) a c v w told = tt
+  wanted_owes who samples medium (Err e) a c v w told = look_owes s a c told.looked

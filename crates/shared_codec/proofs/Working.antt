@@ -1,16 +1,16 @@
 -- The end of a job with its acquires.
 use Rattle.std.proofs.Common.{ℕ, ◌≡◌, true, false, List, [], ◌∷◌, ◌++◌, map, Option, Some, None, is_some, refl, ap, sym, subst, ◌∙◌, append_assoc}
+use Rattle.std.specs.Prelude.{Ok}
 use Rattle.atomic_table.specs.Seated.{TableId}
 use Rattle.atomic_table.specs.declared.shared.Seat.{Seat}
 use Rattle.wc_base.specs.declared.who.By.{By}
 use Rattle.wc_base.specs.declared.who.By.TheVariants as by
 use Rattle.wc_base.specs.Views.{Log}
-use Rattle.wc_base.specs.declared.seat.Passage.TheVariants.{Made, Look}
 use Rattle.wc_base.specs.declared.seat.View.{View}
 use Rattle.wc_config.specs.declared.codec.CoderId.{CoderId}
 use Rattle.coder_api.specs.Lent.{Lent, stopped_lent}
 use Rattle.coder_api.specs.declared.slot.SlotEntry.{SlotEntry}
-use Rattle.codec_model.specs.declared.entry.{Opening.Opening, Entry.Entry, Call.Call}
+use Rattle.codec_model.specs.declared.entry.{Opening.Opening}
 use Rattle.codec_model.specs.declared.entry.Ended.TheVariants as ended
 use Rattle.codec_model.specs.Replay.{State}
 use Rattle.codec_accounts.specs.Boxes.{Holds, newer}
@@ -18,29 +18,23 @@ use Rattle.codec_accounts.specs.Registry.{Box}
 use Rattle.codec_core.specs.Codec.{IsBy}
 use Rattle.codec_core.specs.Job.{JobValue, DoneValue, IsJobOf, IsEndOf, missing_id, stopped_box, done_with, with_box}
 use Rattle.seat_lock.specs.Since.{MadeSince}
-use Rattle.seat_lock.specs.SinceLaws.{made_then, made_none}
+use Rattle.seat_lock.specs.SinceLaws.{made_then}
 use Rattle.codec_logs.specs.declared.event.Event.{Event}
 use Rattle.codec_logs.specs.Logs.{track, box_of, BoxIs, AreAsked}
-use Rattle.shared_pool.specs.Refs.{AreOf}
 use Rattle.shared_slots.specs.Boxes.{Registry, IsOut, IfOut}
 use Rattle.shared_slots.specs.Steps.{went_out, refused, AcquiredAfter, RefusedAfter}
-use Rattle.shared_codec.specs.Dues.{OwedSince, slot_dues, media_dues, DoFor, clones_at, ends_at, gives_of, given_if, IsLater}
-use Rattle.codec_model.specs.Held.{adds_held, in_order}
+use Rattle.shared_codec.specs.Dues.{DoFor, ends_at, gives_of, given_if, IsLater}
+use Rattle.codec_model.specs.Held.{in_order}
 use Rattle.wc_pool.specs.Pools.{ended_by}
 use Rattle.wc_pool.specs.declared.entry.{PoolEntry.PoolEntry, PoolOp.PoolOp}
 use Rattle.wc_pool.specs.declared.reference.MediaRef.{MediaRef}
 use Rattle.wc_base.specs.declared.error.DomError.{DomError}
-use Rattle.wc_base.specs.declared.who.Who.{Who}
 use Rattle.codec_media.specs.Holding.{EndedValue, ReplyValue, RemovedValue, TurnedValue, pair_of}
-use Rattle.shared_codec.specs.Shared.{Shared, MayEndAt, HasJobAt, LookedIn, no_mint, no_spend}
-use Rattle.shared_codec.specs.Calls.{GaveIn, MayAlways, RepliedIn, TurnedIn}
-use Rattle.shared_codec.specs.Settles.{Settles}
-use Rattle.codec_model.specs.declared.entry.Pair.{Pair}
+use Rattle.shared_codec.specs.Shared.{Shared, MayEndAt, HasJobAt}
+use Rattle.shared_codec.specs.Owes.{CallOwes, TurnOwes, ReclaimOwes, StartOwes, DoneOwes, owes_then}
+use Rattle.shared_codec.specs.Settles.{Settles, settles_rest, settles_back}
 use Rattle.shared_codec.specs.Jobs.{StartedIn, DoneIn}
 use Rattle.shared_codec.specs.Workers.{AreBy, AcquiredFor, AcquiredThen, EndsIf, EndsAll, WorkedIn}
-use Rattle.shared_codec.specs.DueLaws.{owed_then, owed_passage}
-use Rattle.shared_codec.proofs.Ending.{ends_none}
-use Rattle.shared_codec.proofs.Taken.{brings_none}
 use Rattle.shared_codec.proofs.Worked.{out_same}
 
 newer_none : (b c : Option Box) → c ≡ None → newer b c ≡ b
@@ -161,30 +155,54 @@ all_ended : (k place : ℕ) (medium : Option MediaRef) (p q : View PoolEntry) �
 all_ended k place None p q e = ([], e, tt)
 all_ended k place (Some r) p q e = (ended_by (by.Codec k place) r e.0 ∷ [], e.1, ((e.0, refl), tt))
 
--- what is handed back may go back
-pub record MayGo (s : Shared) (place : ℕ) (media : List MediaRef) (coder : Option Lent) : Type 0 where
-  pub of : AreOf s.pool media
-  pub out : IfOut s.slots coder
-  pub later : IsLater s.codec place coder
-
 -- a turn by which the codec was closed, by what it hands back
 closed_is : (t : TurnedValue) (place at : ℕ) (removed : Option RemovedValue) (r : RemovedValue) (media : List MediaRef) (coder : Option Lent) → record { place = place; removed = removed } ≡ t → removed ≡ Some r → record { place = at; media = media; coder = coder } ≡ r → t ≡ record { place = place; removed = Some (record { place = at; media = media; coder = coder }) }
 closed_is t place at removed r media coder is some removed_is = sym is ∙ ((λ i. record { place = place; removed = some i }) ∙ (λ i. record { place = place; removed = Some (sym removed_is i) }))
 
-module _ {S : Type 0} where
-  -- nothing could start
-  pub rested : (s : Shared) (a b : Seat (Option S) (View Event)) (c : View SlotEntry) (p : View PoolEntry) → LookedIn s a b → Settles s a.me.0 b.me.0 c c p p
-  rested s a b c p looked = record {
-    entries = [];
-    owed = owed_passage slot_dues s.codec s.opening no_mint no_spend Look a b looked.passes;
-    made = made_none c;
-    calls = [];
-    lends = owed_passage media_dues s.codec s.opening no_mint no_spend Look a b looked.passes;
-    does = [];
-    pool = made_none p;
-    are = tt;
-  }
+-- a start and its end
+pub work_settles : (s : Shared) (a b c : View Event) (u v w : View SlotEntry) (p q : View PoolEntry) (k : ℕ) (job : JobValue) (es : List SlotEntry) (back : EndedValue) (place : ℕ) (media : Option MediaRef) (coder : Option Lent)
+    → k ≡ s.codec → record { place = place; media = media; coder = coder } ≡ back → StartOwes s (Some job) a b → DoneOwes s es back b c → MadeSince u v (given_if s.codec (missing_id job) job.place job.coder ++ es) → MadeSince v w (gives_of k place coder) → EndsIf k place media p q
+    → Settles s a c u w p q
+work_settles s a b c u v w p q k job es back place media coder same is start done first last ends =
+    let given : List SlotEntry = given_if s.codec (missing_id job) job.place job.coder in
+    let returned : List SlotEntry = gives_of s.codec back.place back.coder in
+    let calls : List (ℕ × PoolOp) = ends_at back.place (map pair_of (in_order back.media)) in
+    let closed = all_ended s.codec back.place back.media p q (subst (λ (n : ℕ). EndsIf n back.place back.media p q) same (subst (λ (z : EndedValue). EndsIf k z.place z.media p q) is ends)) in
+    let back_is : gives_of k place coder ≡ returned = (λ i. gives_of (same i) (is i).place (is i).coder) in
+    record {
+      entries = given ++ (es ++ returned);
+      calls = calls;
+      owes = owes_then s a b c given (es ++ returned) [] calls start done;
+      made = subst (λ (l : List SlotEntry). MadeSince u w l) (append_assoc given es returned) (made_then u v w (given ++ es) returned first (subst (λ (l : List SlotEntry). MadeSince v w l) back_is last));
+      does = closed.0;
+      pool = closed.1;
+      are = closed.2;
+    }
 
+-- a call of a caller, once what it let go went back
+pub call_settles : (s : Shared) (r : ReplyValue) (place : ℕ) (exception : Option DomError) (promise : Option ℕ) (media : List MediaRef) (coder : Option Lent) (a b : View Event) (c d : View SlotEntry) (p q : View PoolEntry)
+    → record { place = place; exception = exception; promise = promise; media = media; coder = coder } ≡ r → CallOwes s (Ok r) a b → MadeSince c d (gives_of s.codec place coder) → EndsAll s.codec place media p q → Settles s a b c d p q
+call_settles s r place exception promise media coder a b c d p q is owes given ends =
+    settles_back s place media coder a b c d p q (subst (λ (z : ReplyValue). CallOwes s (Ok z) a b) (sym is) owes) given ends
+
+-- a turn that closes nothing
+pub turn_settles : (s : Shared) (t : TurnedValue) (place : ℕ) (removed : Option RemovedValue) (a b : View Event) (c : View SlotEntry) (p : View PoolEntry) → record { place = place; removed = removed } ≡ t → removed ≡ None → TurnOwes s (Some t) a b → Settles s a b c c p p
+turn_settles s t place removed a b c p is none owes =
+    let t_is : t ≡ record { place = place; removed = None } = sym is ∙ (λ i. record { place = place; removed = none i }) in
+    settles_rest s a b c p (subst (λ (z : TurnedValue). TurnOwes s (Some z) a b) t_is owes)
+
+-- a turn that closes the codec, once what that let go went back
+pub close_settles : (s : Shared) (t : TurnedValue) (place at : ℕ) (removed : Option RemovedValue) (r : RemovedValue) (media : List MediaRef) (coder : Option Lent) (a b : View Event) (c d : View SlotEntry) (p q : View PoolEntry) → record { place = place; removed = removed } ≡ t → removed ≡ Some r → record { place = at; media = media; coder = coder } ≡ r
+    → TurnOwes s (Some t) a b → MadeSince c d (gives_of s.codec place coder) → EndsAll s.codec place media p q → Settles s a b c d p q
+close_settles s t place at removed r media coder a b c d p q is some removed_is owes given ends =
+    settles_back s place media coder a b c d p q (subst (λ (z : TurnedValue). TurnOwes s (Some z) a b) (closed_is t place at removed r media coder is some removed_is) owes) given ends
+
+-- a reclaim, once what it let go went back
+pub reclaim_settles : (s : Shared) (r : RemovedValue) (place : ℕ) (media : List MediaRef) (coder : Option Lent) (a b : View Event) (c d : View SlotEntry) (p q : View PoolEntry) → record { place = place; media = media; coder = coder } ≡ r → ReclaimOwes s (Some r) a b → MadeSince c d (gives_of s.codec place coder) → EndsAll s.codec place media p q → Settles s a b c d p q
+reclaim_settles s r place media coder a b c d p q is owes given ends =
+    settles_back s place media coder a b c d p q (subst (λ (z : RemovedValue). ReclaimOwes s (Some z) a b) (sym is) owes) given ends
+
+module _ {S : Type 0} where
   -- a start and its end
   pub worked : (s : Shared) (r : Registry) (a b c : Seat (Option S) (View Event)) (u v : View SlotEntry) (job : JobValue) (d : DoneValue) (es : List SlotEntry) (moment : ℕ) (back : EndedValue) (place : ℕ) (media : Option MediaRef) (coder : Option Lent)
       → (is_some (missing_id job) ≡ true → AcquiredThen r s.codec job.place (given_if s.codec (missing_id job) job.place job.coder) d es u v) → record { place = place; media = media; coder = coder } ≡ back → StartedIn s job a b → DoneIn s d es moment back b c → WorkedIn s r moment place a c u
@@ -200,77 +218,3 @@ module _ {S : Type 0} where
     acquired = v;
     lacked = lacked;
   }
-
-  pub work_settles : (s : Shared) (a b c : Seat (Option S) (View Event)) (u v w : View SlotEntry) (p q : View PoolEntry) (k : ℕ) (job : JobValue) (d : DoneValue) (es : List SlotEntry) (moment : ℕ) (back : EndedValue) (place : ℕ) (media : Option MediaRef) (coder : Option Lent)
-      → k ≡ s.codec → record { place = place; media = media; coder = coder } ≡ back → StartedIn s job a b → DoneIn s d es moment back b c → MadeSince u v (given_if s.codec (missing_id job) job.place job.coder ++ es) → MadeSince v w (gives_of k place coder) → EndsIf k place media p q
-      → Settles s a.me.0 c.me.0 u w p q
-  work_settles s a b c u v w p q k job d es moment back place media coder same is start done first last ends =
-      let given : List SlotEntry = given_if s.codec (missing_id job) job.place job.coder in
-      let returned : List SlotEntry = gives_of s.codec back.place back.coder in
-      let one : OwedSince slot_dues s.codec s.opening a.me.0 b.me.0 given = subst (λ (l : List SlotEntry). OwedSince slot_dues s.codec s.opening a.me.0 b.me.0 l) start.gives (owed_passage slot_dues s.codec s.opening no_mint no_spend (Made start.made.event) a b start.made.passes) in
-      let two : OwedSince slot_dues s.codec s.opening b.me.0 c.me.0 (es ++ returned) = subst (λ (l : List SlotEntry). OwedSince slot_dues s.codec s.opening b.me.0 c.me.0 l) done.gives (owed_passage slot_dues s.codec s.opening no_mint no_spend (Made done.made.event) b c done.made.passes) in
-      let calls : List (ℕ × PoolOp) = ends_at back.place (map pair_of (in_order back.media)) in
-      let closed = all_ended s.codec back.place back.media p q (subst (λ (n : ℕ). EndsIf n back.place back.media p q) same (subst (λ (z : EndedValue). EndsIf k z.place z.media p q) is ends)) in
-      let back_is : gives_of k place coder ≡ returned = (λ i. gives_of (same i) (is i).place (is i).coder) in
-      record {
-        entries = given ++ (es ++ returned);
-        owed = owed_then slot_dues s.codec s.opening a.me.0 b.me.0 c.me.0 given (es ++ returned) one two;
-        made = subst (λ (l : List SlotEntry). MadeSince u w l) (append_assoc given es returned) (made_then u v w (given ++ es) returned first (subst (λ (l : List SlotEntry). MadeSince v w l) back_is last));
-        calls = calls;
-        lends = owed_then media_dues s.codec s.opening a.me.0 b.me.0 c.me.0 [] calls
-            (subst (λ (l : List (ℕ × PoolOp)). OwedSince media_dues s.codec s.opening a.me.0 b.me.0 l) start.ends (owed_passage media_dues s.codec s.opening no_mint no_spend (Made start.made.event) a b start.made.passes))
-            (subst (λ (l : List (ℕ × PoolOp)). OwedSince media_dues s.codec s.opening b.me.0 c.me.0 l) done.ends (owed_passage media_dues s.codec s.opening no_mint no_spend (Made done.made.event) b c done.made.passes));
-        does = closed.0;
-        pool = closed.1;
-        are = closed.2;
-      }
-
-  -- what an entry let go went back
-  pub gave_settles : (s : Shared) (e : Entry) (place : ℕ) (media : List MediaRef) (coder : Option Lent) (a b : Seat (Option S) (View Event)) (c d : View SlotEntry) (p q : View PoolEntry) → adds_held e ≡ [] → GaveIn s e place media coder a b
-      → MadeSince c d (gives_of s.codec place coder) → EndsAll s.codec place media p q → Settles s a.me.0 b.me.0 c d p q
-  gave_settles s e place media coder a b c d p q none gave given ends = record {
-    entries = gives_of s.codec place coder;
-    owed = subst (λ (l : List SlotEntry). OwedSince slot_dues s.codec s.opening a.me.0 b.me.0 l) gave.gives (owed_passage slot_dues s.codec s.opening no_mint no_spend (Made gave.made.event) a b gave.made.passes);
-    made = given;
-    calls = ends_at place (map pair_of media);
-    lends = subst (λ (l : List (ℕ × PoolOp)). OwedSince media_dues s.codec s.opening a.me.0 b.me.0 l) (gave.ends ∙ ap (λ (l : List Pair). clones_at place l ++ ends_at place (map pair_of media)) none) (owed_passage media_dues s.codec s.opening no_mint no_spend (Made gave.made.event) a b gave.made.passes);
-    does = ends.entries;
-    pool = ends.made;
-    are = ends.are;
-  }
-
-  gave_may : (s : Shared) (e : Entry) (place : ℕ) (media : List MediaRef) (coder : Option Lent) (a b : Seat (Option S) (View Event)) → GaveIn s e place media coder a b → MayGo s place media coder
-  gave_may s e place media coder a b gave = record { of = gave.of; out = gave.out; later = gave.later }
-
-  pub call_may : (s : Shared) (who : Who) (x : Call) (r : ReplyValue) (place : ℕ) (exception : Option DomError) (promise : Option ℕ) (media : List MediaRef) (coder : Option Lent) (a b : Seat (Option S) (View Event))
-      → record { place = place; exception = exception; promise = promise; media = media; coder = coder } ≡ r → RepliedIn s who x r a b → MayGo s place media coder
-  call_may s who x r place exception promise media coder a b is replied =
-      let at = subst (λ (z : ReplyValue). RepliedIn s who x z a b) (sym is) replied in
-      gave_may s (Entry.Call who x) place media coder a b at.gave
-
-  pub close_may : (s : Shared) (t : TurnedValue) (place at : ℕ) (removed : Option RemovedValue) (r : RemovedValue) (media : List MediaRef) (coder : Option Lent) (a b : Seat (Option S) (View Event)) → record { place = place; removed = removed } ≡ t → removed ≡ Some r → record { place = at; media = media; coder = coder } ≡ r
-      → TurnedIn s t a b → MayGo s place media coder
-  close_may s t place at removed r media coder a b is some removed_is turned =
-      let there = subst (λ (z : TurnedValue). TurnedIn s z a b) (closed_is t place at removed r media coder is some removed_is) turned in
-      gave_may s Entry.Turn place media coder a b there.gave
-
-  -- a call of a caller, once what it let go went back
-  pub call_settles : (s : Shared) (who : Who) (x : Call) (r : ReplyValue) (place : ℕ) (exception : Option DomError) (promise : Option ℕ) (media : List MediaRef) (coder : Option Lent) (a b : Seat (Option S) (View Event)) (c d : View SlotEntry) (p q : View PoolEntry)
-      → MayAlways x → record { place = place; exception = exception; promise = promise; media = media; coder = coder } ≡ r → RepliedIn s who x r a b → MadeSince c d (gives_of s.codec place coder) → EndsAll s.codec place media p q → Settles s a.me.0 b.me.0 c d p q
-  call_settles s who x r place exception promise media coder a b c d p q may is replied given ends =
-      let at = subst (λ (z : ReplyValue). RepliedIn s who x z a b) (sym is) replied in
-      gave_settles s (Entry.Call who x) place media coder a b c d p q (brings_none s.opening who x may) at.gave given ends
-
-  -- a turn that closes nothing
-  pub turn_settles : (s : Shared) (t : TurnedValue) (place : ℕ) (removed : Option RemovedValue) (a b : Seat (Option S) (View Event)) (c : View SlotEntry) (p : View PoolEntry) → record { place = place; removed = removed } ≡ t → removed ≡ None → TurnedIn s t a b → Settles s a.me.0 b.me.0 c c p p
-  turn_settles s t place removed a b c p is none turned =
-      let t_is : t ≡ record { place = place; removed = None } = sym is ∙ (λ i. record { place = place; removed = none i }) in
-      let at = subst (λ (z : TurnedValue). TurnedIn s z a b) t_is turned in
-      gave_settles s Entry.Turn place [] None a b c c p p refl at.gave (made_none c) (ends_none s.codec place p)
-
-  -- a turn that closes the codec, once what that let go went back
-  pub close_settles : (s : Shared) (t : TurnedValue) (place at : ℕ) (removed : Option RemovedValue) (r : RemovedValue) (media : List MediaRef) (coder : Option Lent) (a b : Seat (Option S) (View Event)) (c d : View SlotEntry) (p q : View PoolEntry) → record { place = place; removed = removed } ≡ t → removed ≡ Some r → record { place = at; media = media; coder = coder } ≡ r
-      → TurnedIn s t a b → MadeSince c d (gives_of s.codec place coder) → EndsAll s.codec place media p q → Settles s a.me.0 b.me.0 c d p q
-  close_settles s t place at removed r media coder a b c d p q is some removed_is turned given ends =
-      let there = subst (λ (z : TurnedValue). TurnedIn s z a b) (closed_is t place at removed r media coder is some removed_is) turned in
-      gave_settles s Entry.Turn place media coder a b c d p q refl there.gave given ends

@@ -1,6 +1,7 @@
 pub mod Dues
 pub mod DueLaws
 pub mod Keeps
+pub mod Owes
 pub mod Shared
 pub mod Settles
 pub mod Settled

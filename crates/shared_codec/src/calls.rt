@@ -9,6 +9,7 @@ ghost use Rattle.seat_lock.specs.Seats.{IsIdleAt};
 ghost use Rattle.codec_logs.specs.Logs.{acquires_of};
 ghost use Rattle.shared_codec.specs.Shared.{MayEnd};
 ghost use Rattle.shared_codec.specs.Keeps.{Keeps};
+ghost use Rattle.shared_codec.specs.Owes.{CallOwes, StartOwes, DoneOwes, TurnOwes, ReclaimOwes};
 ghost use Rattle.shared_codec.specs.Jobs.{StartTells, DoneIn};
 ghost use Rattle.shared_codec.specs.Calls.{MayAlways, CallTells, TurnTells, ReclaimTells};
 ghost use Rattle.shared_codec.specs.Gives.{CallGives};
@@ -67,6 +68,7 @@ impl<C: Coder> SharedCodec<C> {
         requires may { MayAlways call }
         ensures kept { Keeps self.now.id seat.old seat.new }
         ensures reply { CallTells self.now who call result seat.old seat.new }
+        ensures owes { CallOwes self.now result seat.old.me.0 seat.new.me.0 }
     {
         let mut held = self.lock.enter(rt, seat);
         let reply = call_placed(&mut held.state().core, who, call);
@@ -81,6 +83,7 @@ impl<C: Coder> SharedCodec<C> {
         requires { IsIdleAt self.now.id seat.old }
         ensures kept { Keeps self.now.id seat.old seat.new }
         ensures job { StartTells self.now result seat.old seat.new }
+        ensures owes { StartOwes self.now result seat.old.me.0 seat.new.me.0 }
     {
         let mut held = self.lock.enter(rt, seat);
         let job = held.state().core.start();
@@ -104,6 +107,8 @@ impl<C: Coder> SharedCodec<C> {
         ensures kept { Keeps self.now.id seat.old seat.new }
         ensures done { let acquired = acquires_of acquires in
             DoneIn self.now d acquired moment result seat.old seat.new }
+        ensures owes { let acquired = acquires_of acquires in
+            DoneOwes self.now acquired result seat.old.me.0 seat.new.me.0 }
     {
         let mut held = self.lock.enter(rt, seat);
         let back = held.state().core.done(d, moment);
@@ -118,6 +123,7 @@ impl<C: Coder> SharedCodec<C> {
         requires { IsIdleAt self.now.id seat.old }
         ensures kept { Keeps self.now.id seat.old seat.new }
         ensures turned { TurnTells self.now result seat.old seat.new }
+        ensures owes { TurnOwes self.now result seat.old.me.0 seat.new.me.0 }
     {
         let mut held = self.lock.enter(rt, seat);
         let turned = held.state().core.turn();
@@ -132,6 +138,7 @@ impl<C: Coder> SharedCodec<C> {
         requires { IsIdleAt self.now.id seat.old }
         ensures kept { Keeps self.now.id seat.old seat.new }
         ensures removed { ReclaimTells self.now now result seat.old seat.new }
+        ensures owes { ReclaimOwes self.now result seat.old.me.0 seat.new.me.0 }
     {
         let mut held = self.lock.enter(rt, seat);
         let removed = held.state().core.reclaim(now);

@@ -1,5 +1,5 @@
 // Encodes of a shared codec.
-ghost use Rattle.std.specs.Prelude.{◌≡◌, None, true};
+ghost use Rattle.std.specs.Prelude.{◌≡◌, [], None, true, OnOk, OnErr};
 ghost use Rattle.codec_model.specs.Replay.{is_configured};
 ghost use Rattle.codec_core.specs.Codec.{state_at};
 ghost use Rattle.wc_pool.specs.Pools.{with_token};
@@ -8,6 +8,8 @@ ghost use Rattle.shared_pool.specs.Refs.{IsPoolRef};
 ghost use Rattle.shared_pool.specs.Steps.{IsFree};
 ghost use Rattle.shared_codec.specs.Encodes.{EncodeTells};
 ghost use Rattle.shared_codec.specs.Keeps.{Keeps};
+ghost use Rattle.shared_codec.specs.Owes.{Owes};
+ghost use Rattle.shared_codec.specs.Settles.{SettlesInPool};
 ghost use Rattle.shared_codec.specs.Gives.{EncodeGives};
 
 use crate::calls::{call_placed, has_replied};
@@ -111,6 +113,9 @@ impl<C: Coder> SharedCodec<C> {
         ensures still { IsPoolRef pool.now medium.new }
         ensures reply { EncodeTells self.now who samples medium.old result seat.old seat.new
             pool_seat.old.me.0 pool_seat.new.me.0 }
+        ensures settles { OnOk result (SettlesInPool self.now seat.old.me.0 seat.new.me.0
+            pool_seat.old.me.0 pool_seat.new.me.0) }
+        ensures err { OnErr result (Owes self.now [] [] seat.old.me.0 seat.new.me.0) }
     {
         let mut held = self.lock.enter(rt, seat);
         let reply = encode_in(

@@ -1,7 +1,9 @@
 // Calls that only look at a shared codec.
+ghost use Rattle.std.specs.Prelude.{[]};
 ghost use Rattle.seat_lock.specs.Seats.{IsIdleAt};
 ghost use Rattle.shared_codec.specs.Keeps.{Keeps};
 ghost use Rattle.shared_codec.specs.Looks.{LookTells, EndTells, ProgressTells};
+ghost use Rattle.shared_codec.specs.Owes.{Owes};
 
 use crate::codec::{CodecSeat, SharedCodec};
 use codec_model::{CodecState, PromiseState};
@@ -15,6 +17,7 @@ impl<C: Coder> SharedCodec<C> {
         requires { IsIdleAt self.now.id seat.old }
         ensures kept { Keeps self.now.id seat.old seat.new }
         ensures look { LookTells self.now result seat.old seat.new }
+        ensures owes { Owes self.now [] [] seat.old.me.0 seat.new.me.0 }
     {
         let mut held = self.lock.enter(rt, seat);
         let seen = held.state().core.core().look();
@@ -27,6 +30,7 @@ impl<C: Coder> SharedCodec<C> {
         requires { IsIdleAt self.now.id seat.old }
         ensures kept { Keeps self.now.id seat.old seat.new }
         ensures end { EndTells self.now promise result seat.old seat.new }
+        ensures owes { Owes self.now [] [] seat.old.me.0 seat.new.me.0 }
     {
         let mut held = self.lock.enter(rt, seat);
         let end = held.state().core.core().end_of(promise);
@@ -39,6 +43,7 @@ impl<C: Coder> SharedCodec<C> {
         requires { IsIdleAt self.now.id seat.old }
         ensures kept { Keeps self.now.id seat.old seat.new }
         ensures progress { ProgressTells self.now result seat.old seat.new }
+        ensures owes { Owes self.now [] [] seat.old.me.0 seat.new.me.0 }
     {
         let mut held = self.lock.enter(rt, seat);
         let moment = held.state().core.core().progress();

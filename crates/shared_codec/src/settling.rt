@@ -6,7 +6,7 @@ ghost use Rattle.shared_slots.specs.Steps.{IsFree};
 ghost use Rattle.shared_codec.specs.Calls.{MayAlways};
 ghost use Rattle.shared_codec.specs.Keeps.{Keeps};
 ghost use Rattle.shared_codec.specs.Settles.{Settles};
-ghost use Rattle.shared_codec.specs.Settled.{AnswerTells, TurnOnceTells};
+ghost use Rattle.shared_codec.specs.Settled.{AnswerTells, TurnOnceTells, ReclaimOnceTells};
 
 use crate::codec::{CodecSeat, SharedCodec};
 use codec_media::{Removed, Turned};
@@ -121,5 +121,40 @@ impl<C: Coder> SharedCodec<C> {
                 Some(place)
             }
         }
+    }
+
+    /// A reclaim, as `reclaim` makes it, which answers its entry's place; what it lets go has gone back by its entry.
+    pub fn reclaim_once<R: Wait>(
+        &self,
+        rt: &R,
+        seat: &mut CodecSeat<C>,
+        now: u64,
+        slots: &SlotRegistry<C>,
+        slot_seat: &mut SlotSeat<C>,
+        pool: &SharedPool,
+        pool_seat: &mut PoolSeat,
+    ) -> Option<u64>
+        requires seat { IsIdleAt self.now.id seat.old }
+        requires slots { slots.now.id ≡ self.now.slots }
+        requires pool { pool.now ≡ self.now.pool }
+        requires slot_seat { IsFree slots.now.id slot_seat.old }
+        requires pool_seat { pools.IsFree pool.now pool_seat.old }
+        ensures kept { Keeps self.now.id seat.old seat.new }
+        ensures kept_slots { Keeps slots.now.id slot_seat.old slot_seat.new }
+        ensures free_slots { IsFree slots.now.id slot_seat.new }
+        ensures kept_pool { Keeps pool.now pool_seat.old pool_seat.new }
+        ensures free_pool { pools.IsFree pool.now pool_seat.new }
+        ensures reclaim { ReclaimOnceTells self.now now result seat.old seat.new }
+        ensures settles { Settles self.now seat.old.me.0 seat.new.me.0
+            slot_seat.old.me.0 slot_seat.new.me.0 pool_seat.old.me.0 pool_seat.new.me.0 }
+    {
+        let Some(gone) = self.reclaim(rt, seat, now) else {
+            return None;
+        };
+        let place = gone.place;
+        self.let_go(
+            rt, place, gone.media, gone.coder, slots, slot_seat, pool, pool_seat,
+        );
+        Some(place)
     }
 }

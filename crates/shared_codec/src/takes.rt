@@ -1,10 +1,11 @@
 // Takes of a shared codec's outputs.
-ghost use Rattle.std.specs.Prelude.{◌≡◌, IfOk};
+ghost use Rattle.std.specs.Prelude.{◌≡◌, [], IfOk};
 ghost use Rattle.codec_model.specs.Control.{may_take};
 ghost use Rattle.codec_core.specs.Codec.{state_at};
 ghost use Rattle.seat_lock.specs.Seats.{IsIdleAt};
 ghost use Rattle.shared_codec.specs.Gives.{TakeGives};
 ghost use Rattle.shared_codec.specs.Keeps.{Keeps};
+ghost use Rattle.shared_codec.specs.Owes.{Owes};
 ghost use Rattle.shared_codec.specs.Takes.{NextIs, TakeTells, NextTells, took};
 
 use crate::calls::call_placed;
@@ -83,6 +84,7 @@ impl<C: Coder> SharedCodec<C> {
         requires { IsIdleAt self.now.id seat.old }
         ensures kept { Keeps self.now.id seat.old seat.new }
         ensures next { NextTells self.now result seat.old seat.new }
+        ensures owes { Owes self.now [] [] seat.old.me.0 seat.new.me.0 }
     {
         let mut held = self.lock.enter(rt, seat);
         let next = next_in(held.state().core.core());
@@ -103,6 +105,7 @@ impl<C: Coder> SharedCodec<C> {
         requires { IsIdleAt self.now.id seat.old }
         ensures kept { Keeps self.now.id seat.old seat.new }
         ensures taken { TakeTells self.now who number result seat.old seat.new }
+        ensures owes { Owes self.now [] [] seat.old.me.0 seat.new.me.0 }
     {
         let mut held = self.lock.enter(rt, seat);
         let place = take_in(&mut held.state().core, who, number);

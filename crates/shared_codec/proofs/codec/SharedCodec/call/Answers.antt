@@ -8,6 +8,7 @@ use Rattle.shared_codec.specs.Shared.{Shared}
 use Rattle.shared_codec.proofs.Stands.{StandsAt, nothing_spent, passes_in, keeps_passage}
 use Rattle.shared_codec.proofs.Gave.{stands_call, tells_call}
 use Rattle.shared_codec.proofs.Taken.{brings_none}
+use Rattle.shared_codec.proofs.Owing.{call_owes}
 use Rattle.shared_codec.proofs.codec.SharedCodec.call.Goals as goal
 
 pub call_placed-reply-requires-clause-alone : goal.call_placed-reply-requires-clause-alone
@@ -43,3 +44,6 @@ returns-clause-kept g c =
     let e = c.enter-held.ensures.log in
     let passes = passes_in _ _ (passage_of c.passage_if-passage.result) c.args.seat.now c.enter-held.new.seat c.leave.new.seat e c.leave.ensures.log in
     keeps_passage c.args.self.now.id (passage_of c.passage_if-passage.result) c.args.seat.now c.leave.new.seat passes c.requires.seat (c.leave.ensures.same.0 ∙ c.enter-held.ensures.seat.0, c.leave.ensures.same.1 ∙ c.enter-held.ensures.seat.1)
+
+pub returns-clause-owes : goal.returns-clause-owes
+returns-clause-owes g c = call_owes c.args.self.now c.args.who c.args.call c.call_placed-reply.result c.args.seat.now c.leave.new.seat c.requires.may (returns-clause-reply g c)

@@ -8,7 +8,7 @@ use Rattle.shared_codec.specs.declared.codec.Locked.{Locked}
 use Rattle.shared_codec.specs.Shared.{Shared}
 use Rattle.shared_codec.specs.Gives.{EncodeGives}
 use Rattle.shared_codec.proofs.Stands.{StandsAt, nothing_spent, passes_in, keeps_passage}
-use Rattle.shared_codec.proofs.Encoded.{encode_some, stands_encode, tells_encode}
+use Rattle.shared_codec.proofs.Encoded.{encode_some, stands_encode, tells_encode, encode_settles, wanted_owes}
 use Rattle.shared_codec.proofs.codec.SharedCodec.encode.Goals as goal
 
 pub passage_if-passage-requires-after_bounds : goal.passage_if-passage-requires-after_bounds
@@ -54,3 +54,11 @@ returns-clause-kept g c =
     let e = c.enter-held.ensures.log in
     let passes = passes_in _ _ (passage_of c.passage_if-passage.result) c.args.seat.now c.enter-held.new.seat c.leave.new.seat e c.leave.ensures.log in
     keeps_passage c.args.self.now.id (passage_of c.passage_if-passage.result) c.args.seat.now c.leave.new.seat passes c.requires.seat (c.leave.ensures.same.0 ∙ c.enter-held.ensures.seat.0, c.leave.ensures.same.1 ∙ c.enter-held.ensures.seat.1)
+
+pub returns-clause-settles : goal.returns-clause-settles
+returns-clause-settles g c =
+    encode_settles c.args.self.now c.args.who c.args.samples c.args.medium.now c.encode_in-reply.result c.args.seat.now c.leave.new.seat c.args.pool_seat.now.me.0 c.encode_in-reply.new.seat.me.0 (returns-clause-reply g c)
+
+pub returns-clause-err : goal.returns-clause-err
+returns-clause-err g c =
+    wanted_owes c.args.self.now c.args.who c.args.samples c.args.medium.now c.encode_in-reply.result c.args.seat.now c.leave.new.seat c.args.pool_seat.now.me.0 c.encode_in-reply.new.seat.me.0 (returns-clause-reply g c)

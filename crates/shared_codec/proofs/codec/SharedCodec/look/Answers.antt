@@ -10,6 +10,7 @@ use Rattle.codec_logs.specs.Logs.{history_of}
 use Rattle.shared_codec.specs.Shared.{state_in}
 use Rattle.shared_codec.proofs.Stands.{StandsAt, passes_in, stands_look, keeps_passage}
 use Rattle.shared_codec.proofs.Gave.{saw}
+use Rattle.shared_codec.proofs.Owing.{look_owes}
 use Rattle.shared_codec.proofs.codec.SharedCodec.look.Goals as goal
 
 pub leave-requires-clause-log : goal.leave-requires-clause-log
@@ -37,3 +38,6 @@ returns-clause-kept g c =
     let e = c.enter-held.ensures.log in
     let passes = passes_in _ _ Look c.args.seat.now c.enter-held.new.seat c.leave.new.seat e c.leave.ensures.log in
     keeps_passage c.args.self.now.id Look c.args.seat.now c.leave.new.seat passes c.requires (c.leave.ensures.same.0 ∙ c.enter-held.ensures.seat.0, c.leave.ensures.same.1 ∙ c.enter-held.ensures.seat.1)
+
+pub returns-clause-owes : goal.returns-clause-owes
+returns-clause-owes g c = look_owes c.args.self.now c.args.seat.now c.leave.new.seat (returns-clause-look g c).looked

@@ -7,6 +7,7 @@ use Rattle.shared_codec.specs.declared.codec.Locked.{Locked}
 use Rattle.shared_codec.specs.Shared.{Shared}
 use Rattle.shared_codec.proofs.Stands.{StandsAt, nothing_spent, passes_in, keeps_passage}
 use Rattle.shared_codec.proofs.Taken.{take_some, stands_take, tells_take}
+use Rattle.shared_codec.proofs.Owing.{take_owes}
 use Rattle.shared_codec.proofs.codec.SharedCodec.take.Goals as goal
 
 pub passage_if-passage-requires-after_bounds : goal.passage_if-passage-requires-after_bounds
@@ -44,3 +45,6 @@ returns-clause-kept g c =
     let e = c.enter-held.ensures.log in
     let passes = passes_in _ _ (passage_of c.passage_if-passage.result) c.args.seat.now c.enter-held.new.seat c.leave.new.seat e c.leave.ensures.log in
     keeps_passage c.args.self.now.id (passage_of c.passage_if-passage.result) c.args.seat.now c.leave.new.seat passes c.requires (c.leave.ensures.same.0 ∙ c.enter-held.ensures.seat.0, c.leave.ensures.same.1 ∙ c.enter-held.ensures.seat.1)
+
+pub returns-clause-owes : goal.returns-clause-owes
+returns-clause-owes g c = take_owes c.args.self.now c.args.who c.args.number c.take_in-place.result c.args.seat.now c.leave.new.seat (returns-clause-taken g c)

@@ -7,6 +7,7 @@ use Rattle.shared_codec.specs.declared.codec.Locked.{Locked}
 use Rattle.shared_codec.specs.Shared.{Shared}
 use Rattle.shared_codec.proofs.Stands.{StandsAt, nothing_spent, passes_in, keeps_passage}
 use Rattle.shared_codec.proofs.Gave.{turn_gives, stands_turn, tells_turn}
+use Rattle.shared_codec.proofs.Owing.{turn_owes}
 use Rattle.shared_codec.proofs.codec.SharedCodec.turn.Goals as goal
 
 pub leave-requires-clause-log : goal.leave-requires-clause-log
@@ -39,3 +40,6 @@ returns-clause-kept g c =
     let e = c.enter-held.ensures.log in
     let passes = passes_in _ _ (passage_of c.passage_if-passage.result) c.args.seat.now c.enter-held.new.seat c.leave.new.seat e c.leave.ensures.log in
     keeps_passage c.args.self.now.id (passage_of c.passage_if-passage.result) c.args.seat.now c.leave.new.seat passes c.requires (c.leave.ensures.same.0 ∙ c.enter-held.ensures.seat.0, c.leave.ensures.same.1 ∙ c.enter-held.ensures.seat.1)
+
+pub returns-clause-owes : goal.returns-clause-owes
+returns-clause-owes g c = turn_owes c.args.self.now c.turn-turned.result c.args.seat.now c.leave.new.seat (returns-clause-turned g c)
