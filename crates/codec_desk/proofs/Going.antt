@@ -1,5 +1,5 @@
 -- Steps at one codec of a desk, and rounds over all.
-use Rattle.std.proofs.Common.{ℕ, ◌≡◌, ◌+◌, ◌<◌, List, [], Option, Some, None, length, refl, ap, sym, subst, ◌∙◌, arith, set}
+use Rattle.std.proofs.Common.{ℕ, ◌≡◌, ◌+◌, List, [], Option, Some, None, length, subst, ◌∙◌, arith}
 use Rattle.std.specs.Prelude.{slice_get}
 use Rattle.atomic_table.specs.Seated.{TableId}
 use Rattle.atomic_table.specs.declared.shared.Seat.{Seat}
@@ -7,7 +7,7 @@ use Rattle.wc_base.specs.Views.{Log}
 use Rattle.wc_base.specs.declared.seat.View.{View}
 use Rattle.coder_api.specs.declared.slot.SlotEntry.{SlotEntry}
 use Rattle.codec_model.specs.declared.entry.PromiseState.{PromiseState}
-use Rattle.codec_model.specs.Control.{Control, start_item}
+use Rattle.codec_model.specs.Control.{start_item}
 use Rattle.seat_lock.specs.SinceLaws.{made_none}
 use Rattle.codec_logs.specs.declared.event.Event.{Event}
 use Rattle.shared_slots.specs.Boxes.{Registry}
@@ -22,8 +22,8 @@ use Rattle.flush_promise.specs.Promises.{EndsAs}
 use Rattle.codec_desk.specs.declared.desk.Desk.{Desk}
 use Rattle.codec_desk.specs.declared.desk.Seats.{Seats}
 use Rattle.codec_desk.specs.Each.{Pairs, Each, First, OneAt, IsAt}
-use Rattle.codec_desk.specs.EachLaws.{pairs_length, pairs_get, each_same, each_then, each_back, first_none, first_one, first_all, one_so, one_earlier}
-use Rattle.codec_desk.specs.Desks.{SitsAt, SeesMore, SitAt, Settled}
+use Rattle.codec_desk.specs.EachLaws.{pairs_length, pairs_get, each_same, each_then, first_none, first_one, first_all, one_earlier}
+use Rattle.codec_desk.specs.Desks.{SitsAt, SeesMore, SitAt}
 use Rattle.codec_desk.specs.Rests.{Looked, Rested, Still, NoItem, NoTask}
 use Rattle.codec_desk.specs.RestLaws.{rested_look, rested_earlier, looked_earlier}
 

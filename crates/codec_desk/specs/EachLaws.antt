@@ -139,8 +139,8 @@ module _ {X A : Type 0} where
     first_one step n xs us vs ws h o =
         let next : suc n ≡ n + 1 = omega arith in
         subst (λ (m : ℕ). First R S m xs us ws) next
-            (subst (λ (l : List A). First R S (suc n) xs us l) (sym o.after_is)
-            (first_more n xs us vs o.partner o.before o.after (λ u was. step o.partner u o.before o.after was o.so) o.partner_is o.before_is h))
+        (subst (λ (l : List A). First R S (suc n) xs us l) (sym o.after_is)
+        (first_more n xs us vs o.partner o.before o.after (λ u was. step o.partner u o.before o.after was o.so) o.partner_is o.before_is h))
 
     -- all of them
     pub first_all : (n : ℕ) (xs : List X) (us vs : List A) → length xs ≤ n → First R S n xs us vs → Each R xs us vs

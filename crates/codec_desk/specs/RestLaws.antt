@@ -1,5 +1,5 @@
 -- Laws of what a thread finds where it finds nothing to do.
-use Rattle.std.proofs.Common.{ℕ, ◌≡◌, Bool, true, false, cond, List, [], ◌∷◌, ◌++◌, Option, refl, ap, sym, subst, ◌∙◌, append-nil, append_assoc}
+use Rattle.std.proofs.Common.{ℕ, ◌≡◌, Bool, true, false, cond, List, [], ◌∷◌, ◌++◌, Option, refl, ap, subst, ◌∙◌, append_assoc}
 use Rattle.atomic_table.specs.declared.shared.Seat.{Seat}
 use Rattle.wc_base.specs.Views.{Log}
 use Rattle.wc_base.specs.declared.seat.Passage.{Passage}
@@ -8,14 +8,12 @@ use Rattle.wc_base.specs.declared.seat.View.{View}
 use Rattle.seat_lock.specs.Logs.{NoneBy, entry_in}
 use Rattle.seat_lock.specs.Own.{is_in}
 use Rattle.seat_lock.specs.Seats.{Sitting}
-use Rattle.seat_lock.specs.Since.{entries_by, MadeSince}
-use Rattle.seat_lock.specs.SinceLaws.{made_none, made_then}
-use Rattle.codec_model.specs.Control.{Control}
+use Rattle.seat_lock.specs.Since.{entries_by}
 use Rattle.codec_logs.specs.declared.event.Event.{Event}
 use Rattle.codec_logs.specs.Logs.{IsLog}
 use Rattle.shared_codec.specs.DueLaws.{not_in}
 use Rattle.shared_codec.specs.Keeps.{Keeps}
-use Rattle.shared_codec.specs.Shared.{Shared, LookedIn, state_in}
+use Rattle.shared_codec.specs.Shared.{Shared, LookedIn}
 use Rattle.codec_desk.specs.Desks.{SeesMore}
 use Rattle.codec_desk.specs.Rests.{Looked, Rested, Still}
 

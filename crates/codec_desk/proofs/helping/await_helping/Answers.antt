@@ -1,5 +1,5 @@
-use Rattle.std.proofs.Common.{◌≡◌, ◌∙◌, Some, ap, sym}
-use Rattle.flush_promise.specs.Ends.{ended_state, state_of}
+use Rattle.std.proofs.Common.{◌∙◌, ap, sym}
+use Rattle.flush_promise.specs.Ends.{state_of}
 use Rattle.codec_desk.specs.DeskLaws.{settled_none, settled_then}
 use Rattle.codec_desk.proofs.Going.{saw_earlier}
 use Rattle.codec_desk.proofs.helping.await_helping.Goals as goal
@@ -18,12 +18,15 @@ turn_once-requires-clause-sits g c κs within = c.work_item.ensures.sits
 
 pub loop-preserved : goal.loop-preserved
 loop-preserved g c =
-    let desk = c.args.desk.now in
-    (tt, tt, c.turn_once.ensures.sits,
-        settled_then desk c.args.seats.now c.work_item.new.seats c.turn_once.new.seats
-        (settled_then desk c.args.seats.now c.promise_state-state.new.seats c.work_item.new.seats
-        (settled_then desk c.args.seats.now c.loop.seats c.promise_state-state.new.seats c.loop.invariant.3 c.promise_state-state.ensures.settled)
-        c.work_item.ensures.settled) c.turn_once.ensures.settled)
+    let desk = c.args.desk.now in (
+      tt,
+      tt,
+      c.turn_once.ensures.sits,
+      settled_then desk c.args.seats.now c.work_item.new.seats c.turn_once.new.seats
+          (settled_then desk c.args.seats.now c.promise_state-state.new.seats c.work_item.new.seats
+          (settled_then desk c.args.seats.now c.loop.seats c.promise_state-state.new.seats c.loop.invariant.3 c.promise_state-state.ensures.settled)
+          c.work_item.ensures.settled) c.turn_once.ensures.settled,
+    )
 
 pub returns-in-Some-of-clause-sits : goal.returns-in-Some-of-clause-sits
 returns-in-Some-of-clause-sits g c = c.promise_state-state.ensures.sits

@@ -1,9 +1,9 @@
-use Rattle.std.proofs.Common.{◌≡◌, ◌∙◌, sym, arith}
+use Rattle.std.proofs.Common.{◌∙◌, arith}
 use Rattle.shared_codec.specs.Workers.{WorkTells}
 use Rattle.codec_desk.specs.EachLaws.{one_so}
 use Rattle.codec_desk.specs.DeskLaws.{settled_none, settled_then}
 use Rattle.codec_desk.specs.Rests.{Rested, NoItem}
-use Rattle.codec_desk.proofs.Going.{sit_length, no_item, round_none, round_more, round_all}
+use Rattle.codec_desk.proofs.Going.{no_item, round_none, round_more, round_all}
 use Rattle.codec_desk.proofs.rounds.item_round.Goals as goal
 
 pub loop-codec-init : goal.loop-codec-init
@@ -35,8 +35,8 @@ loop-codec-preserved g c =
       end = i.end;
       below = omega (arith, lt);
       rested = λ none. (let n = c.found_or-found.ensures none in
-            round_more NoItem c.loop-codec.codec c.args.desk.now.codecs.items c.args.seats.now.codecs.items c.loop-codec.seats.codecs.items c.work_item-worked.new.seats.codecs.items (i.rested n.0)
-            (one_so (λ s a b. WorkTells s c.args.desk.now.slots c.now-moment.result c.work_item-worked.result a b c.loop-codec.seats.slots.me.0) (Rested NoItem) (no_item c.args.desk.now.slots c.now-moment.result c.work_item-worked.result c.loop-codec.seats.slots.me.0 n.1) c.loop-codec.codec c.args.desk.now.codecs.items c.loop-codec.seats.codecs.items c.work_item-worked.new.seats.codecs.items e.worked));
+          round_more NoItem c.loop-codec.codec c.args.desk.now.codecs.items c.args.seats.now.codecs.items c.loop-codec.seats.codecs.items c.work_item-worked.new.seats.codecs.items (i.rested n.0)
+          (one_so (λ s a b. WorkTells s c.args.desk.now.slots c.now-moment.result c.work_item-worked.result a b c.loop-codec.seats.slots.me.0) (Rested NoItem) (no_item c.args.desk.now.slots c.now-moment.result c.work_item-worked.result c.loop-codec.seats.slots.me.0 n.1) c.loop-codec.codec c.args.desk.now.codecs.items c.loop-codec.seats.codecs.items c.work_item-worked.new.seats.codecs.items e.worked));
     }
 
 pub returns-clause-sits : goal.returns-clause-sits

@@ -1,9 +1,9 @@
-use Rattle.std.proofs.Common.{◌≡◌, ◌∙◌, sym, arith}
+use Rattle.std.proofs.Common.{◌∙◌, arith}
 use Rattle.shared_codec.specs.Settled.{TurnOnceTells}
 use Rattle.codec_desk.specs.EachLaws.{one_so}
 use Rattle.codec_desk.specs.DeskLaws.{settled_none, settled_then}
 use Rattle.codec_desk.specs.Rests.{Rested, NoTask}
-use Rattle.codec_desk.proofs.Going.{sit_length, no_task, round_none, round_more, round_all}
+use Rattle.codec_desk.proofs.Going.{no_task, round_none, round_more, round_all}
 use Rattle.codec_desk.proofs.rounds.turn_round.Goals as goal
 
 pub loop-codec-init : goal.loop-codec-init
@@ -35,8 +35,8 @@ loop-codec-preserved g c =
       end = i.end;
       below = omega (arith, lt);
       rested = λ none. (let n = c.found_or-found.ensures none in
-            round_more NoTask c.loop-codec.codec c.args.desk.now.codecs.items c.args.seats.now.codecs.items c.loop-codec.seats.codecs.items c.turn_once-turned.new.seats.codecs.items (i.rested n.0)
-            (one_so (λ s a b. TurnOnceTells s c.turn_once-turned.result a b) (Rested NoTask) (no_task c.turn_once-turned.result n.1) c.loop-codec.codec c.args.desk.now.codecs.items c.loop-codec.seats.codecs.items c.turn_once-turned.new.seats.codecs.items e.turned));
+          round_more NoTask c.loop-codec.codec c.args.desk.now.codecs.items c.args.seats.now.codecs.items c.loop-codec.seats.codecs.items c.turn_once-turned.new.seats.codecs.items (i.rested n.0)
+          (one_so (λ s a b. TurnOnceTells s c.turn_once-turned.result a b) (Rested NoTask) (no_task c.turn_once-turned.result n.1) c.loop-codec.codec c.args.desk.now.codecs.items c.loop-codec.seats.codecs.items c.turn_once-turned.new.seats.codecs.items e.turned));
     }
 
 pub returns-clause-sits : goal.returns-clause-sits

@@ -1,4 +1,4 @@
-use Rattle.std.proofs.Common.{◌≡◌, ◌<◌, Some, refl, length, vec_len, arith}
+use Rattle.std.proofs.Common.{◌≡◌, Some, refl, length, vec_len, arith}
 use Rattle.std.specs.Prelude.{slice_get}
 use Rattle.std.proofs.lemmas.Option.{slice_get_read}
 use Rattle.codec_desk.specs.DeskLaws.{settled_one, sit_after}
