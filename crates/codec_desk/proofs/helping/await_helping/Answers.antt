@@ -1,0 +1,40 @@
+use Rattle.std.proofs.Common.{◌∙◌, ap, sym}
+use Rattle.flush_promise.specs.Ends.{state_of}
+use Rattle.codec_desk.specs.DeskLaws.{settled_none, settled_then}
+use Rattle.codec_desk.proofs.Going.{saw_earlier}
+use Rattle.codec_desk.proofs.helping.await_helping.Goals as goal
+
+pub loop-init : goal.loop-init
+loop-init g c = (tt, tt, c.requires.sits, settled_none c.args.desk.now c.args.seats.now c.requires.sits)
+
+pub promise_state-state-requires-clause-sits : goal.promise_state-state-requires-clause-sits
+promise_state-state-requires-clause-sits g c κs within = c.loop.invariant.2
+
+pub work_item-requires-clause-sits : goal.work_item-requires-clause-sits
+work_item-requires-clause-sits g c κs within = c.promise_state-state.ensures.sits
+
+pub turn_once-requires-clause-sits : goal.turn_once-requires-clause-sits
+turn_once-requires-clause-sits g c κs within = c.work_item.ensures.sits
+
+pub loop-preserved : goal.loop-preserved
+loop-preserved g c =
+    let desk = c.args.desk.now in (
+      tt,
+      tt,
+      c.turn_once.ensures.sits,
+      settled_then desk c.args.seats.now c.work_item.new.seats c.turn_once.new.seats
+          (settled_then desk c.args.seats.now c.promise_state-state.new.seats c.work_item.new.seats
+          (settled_then desk c.args.seats.now c.loop.seats c.promise_state-state.new.seats c.loop.invariant.3 c.promise_state-state.ensures.settled)
+          c.work_item.ensures.settled) c.turn_once.ensures.settled,
+    )
+
+pub returns-in-Some-of-clause-sits : goal.returns-in-Some-of-clause-sits
+returns-in-Some-of-clause-sits g c = c.promise_state-state.ensures.sits
+
+pub returns-in-Some-of-clause-settled : goal.returns-in-Some-of-clause-settled
+returns-in-Some-of-clause-settled g c = settled_then c.args.desk.now c.args.seats.now c.loop.seats c.promise_state-state.new.seats c.loop.invariant.3 c.promise_state-state.ensures.settled
+
+pub returns-in-Some-of-clause-ended : goal.returns-in-Some-of-clause-ended
+returns-in-Some-of-clause-ended g c =
+    saw_earlier c.args.codec c.args.promise c.promise_state-state.result c.in-Some-of.end c.args.desk.now.codecs.items c.args.seats.now.codecs.items c.loop.seats.codecs.items c.promise_state-state.new.seats.codecs.items
+    (sym (ap state_of c.in-Some-of.is) ∙ c.of.ensures) c.loop.invariant.3.seats c.promise_state-state.ensures.looked

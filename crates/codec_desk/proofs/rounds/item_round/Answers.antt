@@ -1,0 +1,54 @@
+use Rattle.std.proofs.Common.{◌∙◌, arith}
+use Rattle.shared_codec.specs.Workers.{WorkTells}
+use Rattle.codec_desk.specs.EachLaws.{one_so}
+use Rattle.codec_desk.specs.DeskLaws.{settled_none, settled_then}
+use Rattle.codec_desk.specs.Rests.{Rested, NoItem}
+use Rattle.codec_desk.proofs.Going.{no_item, round_none, round_more, round_all}
+use Rattle.codec_desk.proofs.rounds.item_round.Goals as goal
+
+pub loop-codec-init : goal.loop-codec-init
+loop-codec-init g c = record {
+  sits = c.requires;
+  settled = settled_none c.args.desk.now c.args.seats.now c.requires;
+  end = c.len-codec-end.ensures ∙ c.args.desk.now.codecs.ok.0;
+  below = omega arith;
+  rested = λ none. round_none NoItem c.args.desk.now.pool c.args.desk.now.slots.id c.args.desk.now.codecs.items c.args.seats.now.codecs.items c.requires.codecs;
+}
+
+pub work_item-worked-requires-clause-sits : goal.work_item-worked-requires-clause-sits
+work_item-worked-requires-clause-sits g c κs within = c.loop-codec.invariant.sits
+
+pub work_item-worked-requires-clause-codec : goal.work_item-worked-requires-clause-codec
+work_item-worked-requires-clause-codec g c =
+    let lt = c.loop-codec-test.true in
+    let end = c.loop-codec.invariant.end in
+    omega (arith, lt, end)
+
+pub loop-codec-preserved : goal.loop-codec-preserved
+loop-codec-preserved g c =
+    let i = c.loop-codec.invariant in
+    let e = c.work_item-worked.ensures in
+    let lt = c.loop-codec-test.true in
+    record {
+      sits = e.sits;
+      settled = settled_then c.args.desk.now c.args.seats.now c.loop-codec.seats c.work_item-worked.new.seats i.settled e.settled;
+      end = i.end;
+      below = omega (arith, lt);
+      rested = λ none. (let n = c.found_or-found.ensures none in
+          round_more NoItem c.loop-codec.codec c.args.desk.now.codecs.items c.args.seats.now.codecs.items c.loop-codec.seats.codecs.items c.work_item-worked.new.seats.codecs.items (i.rested n.0)
+          (one_so (λ s a b. WorkTells s c.args.desk.now.slots c.now-moment.result c.work_item-worked.result a b c.loop-codec.seats.slots.me.0) (Rested NoItem) (no_item c.args.desk.now.slots c.now-moment.result c.work_item-worked.result c.loop-codec.seats.slots.me.0 n.1) c.loop-codec.codec c.args.desk.now.codecs.items c.loop-codec.seats.codecs.items c.work_item-worked.new.seats.codecs.items e.worked));
+    }
+
+pub returns-clause-sits : goal.returns-clause-sits
+returns-clause-sits g c = c.loop-codec.invariant.sits
+
+pub returns-clause-settled : goal.returns-clause-settled
+returns-clause-settled g c = c.loop-codec.invariant.settled
+
+pub returns-clause-rested : goal.returns-clause-rested
+returns-clause-rested g c =
+    let i = c.loop-codec.invariant in
+    let over = c.loop-codec-test.false in
+    let end = i.end in
+    let below = i.below in
+    λ none. round_all NoItem c.loop-codec.codec c.args.desk.now.codecs.items c.args.seats.now.codecs.items c.loop-codec.seats.codecs.items (omega (arith, over, end, below)) (i.rested none)

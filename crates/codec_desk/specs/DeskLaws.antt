@@ -1,0 +1,162 @@
+-- Laws of what a thread settles with its seats at a desk.
+use Rattle.std.proofs.Common.{ℕ, ◌≡◌, List, [], ◌∷◌, ◌++◌, map, Option, Some, refl, ap, sym, subst, ◌∙◌, append-nil, append_assoc, arith, set}
+use Rattle.std.specs.Prelude.{slice_get}
+use Rattle.std.specs.List.{sum_by}
+use Rattle.atomic_table.specs.Seated.{TableId}
+use Rattle.atomic_table.specs.declared.shared.Seat.{Seat}
+use Rattle.wc_base.specs.Views.{Log}
+use Rattle.wc_base.specs.declared.seat.View.{View}
+use Rattle.wc_pool.specs.declared.entry.{PoolEntry.PoolEntry, PoolOp.PoolOp}
+use Rattle.wc_pool.specs.declared.entry.PoolOp.TheVariants as op
+use Rattle.coder_api.specs.declared.slot.SlotEntry.{SlotEntry}
+use Rattle.codec_accounts.specs.Bags.{SameBag}
+use Rattle.codec_accounts.specs.BagsLaws.{weigh_append}
+use Rattle.seat_lock.specs.Seats.{IsIdleAt}
+use Rattle.seat_lock.specs.SinceLaws.{made_none, made_then}
+use Rattle.codec_logs.specs.declared.event.Event.{Event}
+use Rattle.shared_pool.specs.Steps as pools
+use Rattle.shared_slots.specs.Steps as registries
+use Rattle.shared_codec.specs.declared.codec.Locked.{Locked}
+use Rattle.shared_codec.specs.Dues.{slot_dues, media_dues, DoFor}
+use Rattle.shared_codec.specs.Keeps.{Keeps, keeps_none, keeps_then}
+use Rattle.shared_codec.specs.Settles.{Settles}
+use Rattle.shared_codec.specs.Shared.{Shared}
+use Rattle.shared_codec.specs.Sums.{dues_of, DuesAddUp}
+use Rattle.codec_desk.specs.declared.desk.Desk.{Desk}
+use Rattle.codec_desk.specs.declared.desk.Seats.{Seats}
+use Rattle.codec_desk.specs.Each.{Each}
+use Rattle.codec_desk.specs.EachLaws.{pairs_after, each_same, each_one, each_then, total_one}
+use Rattle.codec_desk.specs.Desks.{told, entry_for, SitsAt, SeesMore, slot_calls, pool_calls, SitAt, Settled}
+
+-- ---- what a pool's entries do for a codec
+
+one_does : (k : ℕ) (p : ℕ × PoolOp) (e : PoolEntry) → DoFor k (p ∷ []) (e ∷ []) → told e ≡ entry_for k p
+one_does k (place, op.Make r f) e h = absurd h.0
+one_does k (place, op.Clone r f) e h = ap told h.0
+one_does k (place, op.End r f last) e h = ap told h.0.1
+
+-- entries that do what is called for are those that are called for
+pub told_for : (k : ℕ) (ps : List (ℕ × PoolOp)) (es : List PoolEntry) → DoFor k ps es → map told es ≡ map (entry_for k) ps
+told_for k [] [] h = refl
+told_for k [] (e ∷ es) h = absurd h
+told_for k (p ∷ ps) [] h = absurd h
+told_for k (p ∷ ps) (e ∷ es) h =
+    let one : told e ≡ entry_for k p = one_does k p e (h.0, tt) in
+    let rest : map told es ≡ map (entry_for k) ps = told_for k ps es h.1 in
+    (λ i. one i ∷ rest i)
+
+pub map_both : {X Y : Type 0} (f : X → Y) (a b : List X) → map f (a ++ b) ≡ map f a ++ map f b
+map_both f [] b = refl
+map_both f (x ∷ xs) b = ap (λ l. f x ∷ l) (map_both f xs b)
+
+-- ---- bags that grow
+
+bag_of : {X : Type 0} (a b : List X) → a ≡ b → SameBag a b
+bag_of a b is t = ap (sum_by t) is
+
+-- what grew, and grew again
+grown : {X : Type 0} (u v w m n : List X) → SameBag v (u ++ m) → SameBag w (v ++ n) → SameBag w (u ++ (m ++ n))
+grown u v w m n i j t =
+    let a1 = i t in
+    let a2 = j t in
+    let a3 = weigh_append t v n in
+    let a4 = weigh_append t u m in
+    let a5 = weigh_append t u (m ++ n) in
+    let a6 = weigh_append t m n in
+    omega (arith, a1, a2, a3, a4, a5, a6)
+
+-- ---- what one codec calls for
+
+slots_grow : (s : Shared) (u v : View Event) (es : List SlotEntry) → dues_of slot_dues s.codec s.opening v ≡ dues_of slot_dues s.codec s.opening u ++ es → SameBag (dues_of slot_dues s.codec s.opening v) (dues_of slot_dues s.codec s.opening u ++ es)
+slots_grow s u v es is = bag_of (dues_of slot_dues s.codec s.opening v) (dues_of slot_dues s.codec s.opening u ++ es) is
+
+calls_grow : (s : Shared) (u v : View Event) (ps : List (ℕ × PoolOp)) (es : List PoolEntry) → dues_of media_dues s.codec s.opening v ≡ dues_of media_dues s.codec s.opening u ++ ps → DoFor s.codec ps es
+    → SameBag (map (entry_for s.codec) (dues_of media_dues s.codec s.opening v)) (map (entry_for s.codec) (dues_of media_dues s.codec s.opening u) ++ map told es)
+calls_grow s u v ps es is done =
+    let k : ℕ = s.codec in
+    let all : map (entry_for k) (dues_of media_dues k s.opening v) ≡ map (entry_for k) (dues_of media_dues k s.opening u) ++ map told es =
+    ap (map (entry_for k)) is ∙ (map_both (entry_for k) (dues_of media_dues k s.opening u) ps ∙ ap (λ (l : List PoolEntry). map (entry_for k) (dues_of media_dues k s.opening u) ++ l) (sym (told_for k ps es done))) in
+    bag_of (map (entry_for k) (dues_of media_dues k s.opening v)) (map (entry_for k) (dues_of media_dues k s.opening u) ++ map told es) all
+
+-- ---- seats that see more
+
+module _ {S : Type 0} where
+  -- a seat with which nothing was done
+  pub sees_same : (s : Shared) (a : Seat (Option S) (View Event)) → IsIdleAt s.id a → SeesMore s a a
+  sees_same s a idle = record { kept = keeps_none s.id a idle; more = []; longer = sym (append-nil a.me.0.log) }
+
+  pub sees_then : (s : Shared) (a b c : Seat (Option S) (View Event)) → SeesMore s a b → SeesMore s b c → SeesMore s a c
+  sees_then s a b c x y = record {
+    kept = keeps_then s.id a b c x.kept y.kept;
+    more = x.more ++ y.more;
+    longer = y.longer ∙ (ap (λ (l : Log Event). l ++ y.more) x.longer ∙ append_assoc a.me.0.log x.more y.more);
+  }
+
+  -- a seat of a desk stays one
+  pub sits_more : (pool slots : TableId) (place : ℕ) (s : Shared) (a b : Seat (Option S) (View Event)) → SitsAt pool slots place s a → SeesMore s a b → SitsAt pool slots place s b
+  sits_more pool slots place s a b at more = record { number = at.number; pool_is = at.pool_is; slots_is = at.slots_is; idle = more.kept.idle }
+
+module _ {C : Type 0} where
+  -- what was settled at one codec is settled at the desk
+  pub settled_one : (desk : Desk C) (a b : Seats C) (place : ℕ) (s : Shared) (u v : Seat (Option (Locked C)) (View Event)) → DuesAddUp slot_dues → DuesAddUp media_dues → SitAt desk a → slice_get desk.codecs.items place ≡ Some s → slice_get a.codecs.items place ≡ Some u → b.codecs.items ≡ set a.codecs.items place v
+      → Keeps s.id u v → Keeps desk.slots.id a.slots b.slots → Keeps desk.pool a.pool b.pool → Settles s u.me.0 v.me.0 a.slots.me.0 b.slots.me.0 a.pool.me.0 b.pool.me.0 → Settled desk a b
+  settled_one desk a b place s u v slots_add media_add at codec seat is kept slot_kept pool_kept x =
+      let Q : ℕ → Shared → Seat (Option (Locked C)) (View Event) → Type 0 = SitsAt desk.pool desk.slots.id in
+      let more : SeesMore s u v = record { kept = kept; more = x.owes.slots.more; longer = x.owes.slots.longer } in
+      let set_is : List (Seat (Option (Locked C)) (View Event)) = set a.codecs.items place v in
+      let calls : SameBag (slot_calls desk.codecs.items set_is) (slot_calls desk.codecs.items a.codecs.items ++ x.entries) =
+      total_one (λ (t : Shared) (w : Seat (Option (Locked C)) (View Event)). dues_of slot_dues t.codec t.opening w.me.0) place desk.codecs.items a.codecs.items s u v x.entries codec seat
+      (slots_grow s u.me.0 v.me.0 x.entries (slots_add.grow s.codec s.opening u.me.0 v.me.0 x.entries x.owes.slots)) in
+      let lends : SameBag (pool_calls desk.codecs.items set_is) (pool_calls desk.codecs.items a.codecs.items ++ map told x.does) =
+      total_one (λ (t : Shared) (w : Seat (Option (Locked C)) (View Event)). map (entry_for t.codec) (dues_of media_dues t.codec t.opening w.me.0)) place desk.codecs.items a.codecs.items s u v (map told x.does) codec seat
+      (calls_grow s u.me.0 v.me.0 x.calls x.does (media_add.grow s.codec s.opening u.me.0 v.me.0 x.calls x.owes.pool) x.are) in
+      record {
+        seats = subst (λ (l : List (Seat (Option (Locked C)) (View Event))). Each SeesMore desk.codecs.items a.codecs.items l) (sym is)
+            (each_one Q SeesMore (λ n t w h. sees_same t w h.idle) 0 place desk.codecs.items a.codecs.items s u v at.codecs codec seat more);
+        slot_seat = slot_kept;
+        pool_seat = pool_kept;
+        entries = x.entries;
+        made = x.made;
+        owed = λ t. ap (λ (l : List (Seat (Option (Locked C)) (View Event))). sum_by t (slot_calls desk.codecs.items l)) is ∙ calls t;
+        does = x.does;
+        pool = x.pool;
+        lends = λ t. ap (λ (l : List (Seat (Option (Locked C)) (View Event))). sum_by t (pool_calls desk.codecs.items l)) is ∙ lends t;
+      }
+
+  -- with no step nothing is called for and nothing made
+  pub settled_none : (desk : Desk C) (a : Seats C) → SitAt desk a → Settled desk a a
+  settled_none desk a at = record {
+    seats = each_same (SitsAt desk.pool desk.slots.id) SeesMore (λ n t w h. sees_same t w h.idle) 0 desk.codecs.items a.codecs.items at.codecs;
+    slot_seat = keeps_none desk.slots.id a.slots at.slots.0;
+    pool_seat = keeps_none desk.pool a.pool at.pool.0;
+    entries = [];
+    made = made_none a.slots.me.0;
+    owed = λ t. ap (sum_by t) (sym (append-nil (slot_calls desk.codecs.items a.codecs.items)));
+    does = [];
+    pool = made_none a.pool.me.0;
+    lends = λ t. ap (sum_by t) (sym (append-nil (pool_calls desk.codecs.items a.codecs.items)));
+  }
+
+  -- one step after another
+  pub settled_then : (desk : Desk C) (a b c : Seats C) → Settled desk a b → Settled desk b c → Settled desk a c
+  settled_then desk a b c x y =
+      let calls = grown (pool_calls desk.codecs.items a.codecs.items) (pool_calls desk.codecs.items b.codecs.items) (pool_calls desk.codecs.items c.codecs.items) (map told x.does) (map told y.does) x.lends y.lends in
+      record {
+        seats = each_then SeesMore SeesMore SeesMore sees_then desk.codecs.items a.codecs.items b.codecs.items c.codecs.items x.seats y.seats;
+        slot_seat = keeps_then desk.slots.id a.slots b.slots c.slots x.slot_seat y.slot_seat;
+        pool_seat = keeps_then desk.pool a.pool b.pool c.pool x.pool_seat y.pool_seat;
+        entries = x.entries ++ y.entries;
+        made = made_then a.slots.me.0 b.slots.me.0 c.slots.me.0 x.entries y.entries x.made y.made;
+        owed = grown (slot_calls desk.codecs.items a.codecs.items) (slot_calls desk.codecs.items b.codecs.items) (slot_calls desk.codecs.items c.codecs.items) x.entries y.entries x.owed y.owed;
+        does = x.does ++ y.does;
+        pool = made_then a.pool.me.0 b.pool.me.0 c.pool.me.0 x.does y.does x.pool y.pool;
+        lends = λ t. calls t ∙ ap (λ (l : List PoolEntry). sum_by t (pool_calls desk.codecs.items a.codecs.items ++ l)) (sym (map_both told x.does y.does));
+      }
+
+  -- a thread's seats at a desk stay seats at it
+  pub sit_after : (desk : Desk C) (a b : Seats C) → SitAt desk a → Settled desk a b → pools.IsFree desk.pool b.pool → registries.IsFree desk.slots.id b.slots → SitAt desk b
+  sit_after desk a b at x pool slots = record {
+    codecs = pairs_after (SitsAt desk.pool desk.slots.id) SeesMore (sits_more desk.pool desk.slots.id) 0 desk.codecs.items a.codecs.items b.codecs.items at.codecs x.seats;
+    pool = pool;
+    slots = slots;
+  }

@@ -1,0 +1,6 @@
+pub mod Each
+pub mod EachLaws
+pub mod Desks
+pub mod DeskLaws
+pub mod Rests
+pub mod RestLaws

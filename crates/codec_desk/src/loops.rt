@@ -1,0 +1,66 @@
+// Loops of workers and of turners.
+ghost use Rattle.codec_desk.specs.Desks.{SitAt, Settled};
+ghost use Rattle.codec_desk.specs.Each.{Each};
+ghost use Rattle.codec_desk.specs.Rests.{Looked, NoItem, NoTask};
+
+use crate::clock::Clock;
+use crate::desk::{Desk, Seats};
+use crate::rounds::{item_round, turn_round};
+use coder_api::Coder;
+use std::alloc::Global;
+use std::sync::Wait;
+use std::sync::atomic::{AtomicU64, Ordering};
+use std::thread;
+
+/// Works on all codecs until a whole round finds no item that may start, where that round began with no caller left. `callers`
+/// counts the callers that still go on; no clause rests on it. On each codec the seats then looked, and no item could start.
+pub fn item_loop<C: Coder, K: Clock, R: Wait>(
+    rt: &R,
+    alloc: Global,
+    desk: &Desk<C>,
+    seats: &mut Seats<C>,
+    callers: &AtomicU64,
+    clock: &mut K,
+)
+    requires { SitAt desk.now seats.old }
+    ensures sits { SitAt desk.now seats.new }
+    ensures settled { Settled desk.now seats.old seats.new }
+    ensures looked { Each (Looked NoItem)
+        desk.now.codecs.items seats.old.codecs.items seats.new.codecs.items }
+{
+    for _ in rt.forever() {
+        let over = callers.load(Ordering::SeqCst) == 0;
+        let found = item_round(rt, alloc, desk, seats, clock);
+        if over && !found {
+            return;
+        }
+        thread::yield_now();
+    }
+    unreachable!()
+}
+
+/// Turns all codecs until a whole round finds no task, where that round began with no caller left. `callers` counts the
+/// callers that still go on; no clause rests on it. On each codec the seats then looked, and no task was queued. It takes no
+/// memory.
+pub fn turn_loop<C: Coder, R: Wait>(
+    rt: &R,
+    desk: &Desk<C>,
+    seats: &mut Seats<C>,
+    callers: &AtomicU64,
+)
+    requires { SitAt desk.now seats.old }
+    ensures sits { SitAt desk.now seats.new }
+    ensures settled { Settled desk.now seats.old seats.new }
+    ensures looked { Each (Looked NoTask)
+        desk.now.codecs.items seats.old.codecs.items seats.new.codecs.items }
+{
+    for _ in rt.forever() {
+        let over = callers.load(Ordering::SeqCst) == 0;
+        let turned = turn_round(rt, desk, seats);
+        if over && !turned {
+            return;
+        }
+        thread::yield_now();
+    }
+    unreachable!()
+}

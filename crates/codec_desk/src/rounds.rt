@@ -1,0 +1,60 @@
+// Rounds over all codecs of a desk.
+ghost use Rattle.std.specs.Prelude.{◌≡◌, false, None};
+ghost use Rattle.codec_desk.specs.Desks.{SitAt, Settled};
+ghost use Rattle.codec_desk.specs.Each.{Each};
+ghost use Rattle.codec_desk.specs.Rests.{Rested, NoItem, NoTask};
+
+use crate::clock::Clock;
+use crate::desk::{Desk, Seats};
+use crate::steps::{turn_once, work_item};
+use coder_api::Coder;
+use std::alloc::Global;
+use std::sync::Wait;
+
+// Whether something was found, before or now.
+fn found_or(found: bool, step: Option<u64>) -> bool
+    ensures { result ≡ false → (found ≡ false) × (step ≡ None) }
+{
+    found || step.is_some()
+}
+
+/// An item of each codec, if one may start, as `work_item` does it. False only where none could start on any: on each codec
+/// the seats looked, no item could start there, and they made no entry.
+pub fn item_round<C: Coder, K: Clock, R: Wait>(
+    rt: &R,
+    alloc: Global,
+    desk: &Desk<C>,
+    seats: &mut Seats<C>,
+    clock: &mut K,
+) -> bool
+    requires { SitAt desk.now seats.old }
+    ensures sits { SitAt desk.now seats.new }
+    ensures settled { Settled desk.now seats.old seats.new }
+    ensures rested { result ≡ false → Each (Rested NoItem)
+        desk.now.codecs.items seats.old.codecs.items seats.new.codecs.items }
+{
+    let mut found = false;
+    for codec in 0..desk.codecs.len() {
+        let moment = clock.now();
+        let worked = work_item(rt, alloc, desk, seats, codec, moment);
+        found = found_or(found, worked);
+    }
+    found
+}
+
+/// A turn of each codec, if a task is queued. False only where none was on any: on each codec the seats looked, no task was
+/// queued there, and they made no entry. It takes no memory.
+pub fn turn_round<C: Coder, R: Wait>(rt: &R, desk: &Desk<C>, seats: &mut Seats<C>) -> bool
+    requires { SitAt desk.now seats.old }
+    ensures sits { SitAt desk.now seats.new }
+    ensures settled { Settled desk.now seats.old seats.new }
+    ensures rested { result ≡ false → Each (Rested NoTask)
+        desk.now.codecs.items seats.old.codecs.items seats.new.codecs.items }
+{
+    let mut found = false;
+    for codec in 0..desk.codecs.len() {
+        let turned = turn_once(rt, desk, seats, codec);
+        found = found_or(found, turned);
+    }
+    found
+}
