@@ -1,6 +1,14 @@
-//! Tests of what stands behind locks: codecs that threads share.
+//! Tests of what stands behind locks: a pool, a registry and codecs that threads share.
 #![tactic(auto)]
 
+mod desk;
 #[cfg(test)]
 mod flush_tests;
 mod flushes;
+mod parts;
+mod pools;
+#[cfg(test)]
+mod run_tests;
+mod runs;
+#[cfg(test)]
+mod shared_pool_tests;
