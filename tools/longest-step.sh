@@ -1,8 +1,8 @@
 #!/usr/bin/env bash
-# Instructions of single decodes in a history of 1,000,000 entries: of the first thousand, and of those at which memory
+# Instructions of single decodes in a history of nearly 1,000,000 entries: of the first thousand, and of those at which memory
 # grows, where a copy of the whole would show: tools/longest-step.sh [DECODE..]
 # A decode makes five entries. Its cost is that of so many decodes less that of one fewer.
-# Wants valgrind, and crates/codec_speed built (rt run in crates/codec_speed).
+# Wants valgrind, and crates/codec_speed built (rt run in crates/codec_speed), or PROGRAM set to another build of it.
 cd "$(dirname "$0")/.." || exit 2
 program=${PROGRAM:-crates/codec_speed/out/codec_speed}
 work=$(mktemp -d) || exit 2
