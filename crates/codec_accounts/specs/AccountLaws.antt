@@ -148,9 +148,6 @@ done_fits e refusal epoch number moment o is fits = subst (λ (x : Entry). Entry
 
 -- ---- one entry more
 
-call_itself : (k p : ℕ) → is_cause (by.Codec k p) (by.Codec k p) ≡ true
-call_itself k p = rw (eq-eqb k k refl, eq-eqb p p refl) refl
-
 acts_count : {B : Type 0} (es : List (Event B)) → length (acts_in es) ≡ length es
 acts_count [] = refl
 acts_count (x ∷ xs) = ap suc (acts_count xs)

@@ -48,9 +48,6 @@ nothing_due : {D : Type 0} (due : ℕ → ℕ → Event Box → Holds Box → Li
 nothing_due due k [] = refl
 nothing_due due k (o ∷ os) = nothing_due due (suc k) os
 
-none_asks : (p : ℕ) → in_list (asks_in [] p) ≡ []
-none_asks p = refl
-
 count_map : {X Y : Type 0} (f : X → Y) (xs : List X) → length (map f xs) ≡ length xs
 count_map f [] = refl
 count_map f (x ∷ xs) = ap suc (count_map f xs)

@@ -92,11 +92,6 @@ result_more c d j x r ls h =
       ]
     ]
 
-pub take_kept : {X : Type 0} (c d n : ℕ) (x : X) (ls : List (List X)) → n ≤ length (at c ls) → take n (at c (append_at d x ls)) ≡ take n (at c ls)
-take_kept c d n x ls h =
-    let g = at_grows c d x ls in
-    ap (take n) g.1 ∙ take-append-le n (at c ls) g.0 h
-
 -- a list is there, or it is empty
 pub there : {X : Type 0} (k : ℕ) (ls : List (List X)) → (k < length ls) ⊎ (at k ls ≡ [])
 there k [] = inr refl

@@ -21,7 +21,13 @@ picture_format codec.RawI420 = Some format.I420
 picture_format codec.RawI422 = Some format.I422
 picture_format codec.RawI444 = Some format.I444
 picture_format codec.RawNv12 = Some format.Nv12
-picture_format _ = None
+picture_format codec.PcmU8 = None
+picture_format codec.PcmS16 = None
+picture_format codec.PcmS24 = None
+picture_format codec.PcmS32 = None
+picture_format codec.Alaw = None
+picture_format codec.Ulaw = None
+picture_format codec.Flac = None
 
 abbrev pub shape_in : Option PictureFormat → Option ℕ → Option ℕ → Option PictureShape
 shape_in (Some f) (Some width) (Some height) = Some (record { format = f; width = width; height = height; timestamp = pos 0; duration = None })

@@ -47,7 +47,11 @@ sample_codec codec.PcmS24 = Some (pcm 3 format.S32)
 sample_codec codec.PcmS32 = Some (pcm 4 format.S32)
 sample_codec codec.Alaw = Some (law alaw_value alaw_code)
 sample_codec codec.Ulaw = Some (law ulaw_value ulaw_code)
-sample_codec _ = None
+sample_codec codec.Flac = None
+sample_codec codec.RawI420 = None
+sample_codec codec.RawI422 = None
+sample_codec codec.RawI444 = None
+sample_codec codec.RawNv12 = None
 
 -- coded sample `i` of coded samples that stand one after another, in the format in which samples are decoded
 abbrev pub decoded_at : SampleCodec → List ℕ → ℕ → List ℕ

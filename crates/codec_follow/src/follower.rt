@@ -2,6 +2,7 @@
 ghost use Rattle.std.specs.Prelude.{◌≡◌, ◌<◌, ◌+◌, ◌^◌, IfOk, IfNone, Some};
 ghost use Rattle.wc_base.specs.declared.who.Who.{Who};
 ghost use Rattle.codec_model.specs.declared.entry.Entry.TheVariants as entry;
+ghost use Rattle.codec_model.specs.Control.{left};
 ghost use Rattle.codec_model.specs.Replay.{opening_state};
 ghost use Rattle.codec_model.specs.Shown.{shown_of};
 ghost use Rattle.codec_follow.specs.Followed.{follower_of, Follows};
@@ -53,6 +54,13 @@ impl Follower {
         ensures { result ≡ self.now.control.size }
     {
         self.machine.size()
+    }
+
+    /// How many starts, ends and turns are left at most. Counting them uses the follower up.
+    pub fn into_left(self) -> u64
+        ensures { result ≡ left self.control }
+    {
+        self.machine.into_left()
     }
 
     /// The next entry: what it shows, with blanks for its outputs. `None` exactly where it does not follow, and then

@@ -21,3 +21,4 @@ pub mod SeenLaws
 pub mod BookLaws
 pub mod EqualLaws
 mod StuckLaws
+mod FollowLaws

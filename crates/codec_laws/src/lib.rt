@@ -5,6 +5,7 @@ mod answers;
 mod book;
 mod falls;
 mod laws;
+mod remains;
 mod same;
 mod seen;
 mod sight;
@@ -17,6 +18,7 @@ pub use laws::{
     promises_end_once, rejected_only_by_removals, removals_reject, same_calls_show_the_same,
     size_falls_between,
 };
+pub use remains::{left, quiet};
 pub use same::same_shown;
 pub use seen::sights;
 pub use sight::{Ran, Sight};

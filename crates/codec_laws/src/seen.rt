@@ -182,7 +182,7 @@ fn sight(alloc: Global, entry: &Entry, shown: &Shown, size: u64) -> Result<Sight
 }
 
 // The next entry of a legal history.
-fn follow(follower: &mut Follower, entry: &Entry) -> Result<Shown, NoMemory>
+pub(crate) fn follow(follower: &mut Follower, entry: &Entry) -> Result<Shown, NoMemory>
     requires { Goes entry.now follower.old }
     ensures { IfOk result (λ x. Went entry.now follower.old x follower.new) }
 {

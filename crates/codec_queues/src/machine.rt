@@ -9,7 +9,7 @@ ghost use Rattle.codec_queues.specs.Sent.{sent};
 use crate::labels::carry;
 use crate::queues::{
     close_answer, halts, later, more_coded, promise_if, queue_end, remove_promise, reserve_places,
-    room_for, schedule_dequeue, turn_answer,
+    room_for, schedule_dequeue, tasks_weight, turn_answer,
 };
 use crate::rings::Queues;
 use codec_model::{
@@ -103,6 +103,17 @@ impl Machine {
         ensures small { result < 2 ^ 62 }
     {
         self.room
+    }
+
+    /// How many starts, ends and turns are left at most: 7 for each message, 4 for each item, 3 for one at work, 2 for each task
+    /// that unblocks the queue, and 1 for each other task. Counting the tasks uses the machine up.
+    pub fn into_left(self) -> u64
+        ensures { result ≡ left self }
+    {
+        let messages = self.queues.message_count() as u64;
+        let items = self.queues.item_count() as u64;
+        let running = if self.running.is_some() { 3 } else { 0 };
+        7 * messages + 4 * items + running + tasks_weight(self.queues)
     }
 
     /// The place of the next entry.

@@ -1,7 +1,7 @@
 // Plain work on the queues, apart from the codec that has them.
-ghost use Rattle.std.specs.Prelude.{ℕ, ◌≡◌, ◌<◌, ◌≤◌, ◌*◌, ◌+◌, ◌^◌, ◌++◌, ◌∷◌, [], max, length, count_by, filter, not, ◌==◌, ◌&&◌, ◌||◌, if◌then◌else◌, unwrap_or, OnOk, IfOk, None, Some, true, false, cond};
+ghost use Rattle.std.specs.Prelude.{ℕ, ◌≡◌, ◌<◌, ◌≤◌, ◌*◌, ◌+◌, ◌^◌, ◌++◌, ◌∷◌, [], max, length, count_by, sum_by, filter, not, ◌==◌, ◌&&◌, ◌||◌, if◌then◌else◌, unwrap_or, OnOk, IfOk, None, Some, true, false, cond};
 ghost use Rattle.std.specs.VecDeque.{deque_len, deque_capacity};
-ghost use Rattle.codec_model.specs.Control.{is_coded, refusal_of, with_ran, with_desaturate, with_output, with_end, halts};
+ghost use Rattle.codec_model.specs.Control.{task_weight, is_coded, refusal_of, with_ran, with_desaturate, with_output, with_end, halts};
 ghost use Rattle.codec_model.specs.Shown.{IsAnswer, word_of_task, task_shows, close_shows, closes};
 ghost use Rattle.codec_queues.specs.Rising.{IsRising};
 ghost use Rattle.codec_queues.specs.Sent.{promised};
@@ -231,4 +231,26 @@ pub fn promise_if(pending: &mut VecDeque<u64>, work: &Work, place: u64)
         Work::Configure(_) => {}
         Work::Coded(_) => {}
     }
+}
+
+/// How many turns come of a task at most.
+pub fn task_weight(task: &Task) -> u64
+    ensures { result ≡ task_weight task.now }
+{
+    match task {
+        Task::Unblock => 2,
+        _ => 1,
+    }
+}
+
+/// How many turns come of the tasks of these queues at most.
+pub fn tasks_weight(mut queues: Queues) -> u64
+    requires { sum_by task_weight queues.tasks < 2 ^ 62 }
+    ensures { result ≡ sum_by task_weight queues.tasks }
+{
+    let mut weight = 0;
+    while let Some((task, _)) = queues.pop_task() {
+        weight += task_weight(&task);
+    }
+    weight
 }

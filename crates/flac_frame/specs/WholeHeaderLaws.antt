@@ -122,10 +122,6 @@ header_is info p =
     step (block_size_at codes.0.block number.1) _ _ (λ h. tail_at info h.0 (crc8_of (bytes_between h.1.bytes p.at h.1.at)) h.1) (λ block.
     step (sample_rate_at info.rate codes.0.rate block.1) (λ rate. given_or (header_with info codes.0 number.0 block.0 rate.0) rate.1) _ (λ h. tail_at info h.0 (crc8_of (bytes_between h.1.bytes p.at h.1.at)) h.1) (λ rate. refl))))
 
--- the place behind bits from the start
-behind_start : (bytes : List ℕ) (n : ℕ) → (forward n (start_of bytes)).at ≡ n
-behind_start bytes n = omega arith
-
 counted_is : (bytes : List ℕ) (bits : List Bool) → Begins (start_of bytes) bits → length bits % 8 ≡ 0 → crc8_of (bytes_between bytes 0 (0 + length bits)) ≡ bits_sum 8 0x07 bits
 counted_is bytes bits b h = sum_8 bytes bits b.rest (0 + length bits) b.whole h (omega arith)
 

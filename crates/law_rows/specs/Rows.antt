@@ -1,5 +1,5 @@
 -- Whole runs, and what the laws by places see of them.
-use Rattle.std.specs.Prelude.{ℕ, ◌≡◌, true, false, pos, List, [], ◌∷◌, Some, None, codes}
+use Rattle.std.specs.Prelude.{ℕ, ◌≡◌, true, false, pos, List, [], ◌∷◌, take, Some, None, codes}
 use Rattle.wc_config.specs.declared.config.Config.{Config}
 use Rattle.wc_config.specs.declared.config.Config.TheVariants as config
 use Rattle.wc_chunk.specs.declared.chunk.Chunk.{Chunk}
@@ -19,6 +19,7 @@ use Rattle.wc_base.specs.declared.media.SampleFormat.TheVariants.{S16}
 use Rattle.codec_model.specs.Replay.{answers_to}
 use Rattle.codec_model.specs.Shown.{shown, outputs_of}
 use Rattle.codec_laws.specs.Laws.{flush_ends}
+use Rattle.codec_laws.specs.Left.{left_after}
 use Rattle.codec_laws.specs.Contents.{configuration_at}
 use Rattle.codec_laws.specs.Sights.{sights, falls_at, dequeues_at}
 use Rattle.codec_laws.specs.Sources.{given, outputs, end_from}
@@ -140,3 +141,19 @@ pub record ClosingEnds : Type 0 where
 -- a promise that the turn of a close rejects
 abbrev pub UnsupportedEnds : Type 0
 UnsupportedEnds = end_from 1 0 (sights four unsupported) ≡ Some (4, promise.Rejected dom.NotSupported)
+
+-- What is left after the first entries of a decode and a flush: behind the calls an item and two messages; then the item at
+-- work; then a task that unblocks the queue; then one that processes it; then two items and the dequeue event. In the end
+-- nothing is left.
+pub record FlushingLeft : Type 0 where
+  pub asked : left_after four (take 3 flushing) ≡ 18
+  pub started : left_after four (take 4 flushing) ≡ 17
+  pub ended : left_after four (take 5 flushing) ≡ 16
+  pub unblocked : left_after four (take 6 flushing) ≡ 15
+  pub processed : left_after four (take 7 flushing) ≡ 9
+  pub none : left_after four flushing ≡ 0
+
+-- after a reset all is done too, and in the run that is cut off one turn is left
+pub record OthersLeft : Type 0 where
+  pub resetting : left_after four resetting ≡ 0
+  pub cut_off : left_after two (take 19 early) ≡ 1

@@ -8,4 +8,5 @@ mod rows;
 
 pub use rows::{
     closing_run, early_run, flushing_run, resetting_run, saturating_run, unsupported_run,
+    what_is_left,
 };

@@ -1,6 +1,6 @@
 // The laws' definitions on whole runs, computed by the checker.
 ghost use Rattle.codec_model.specs.Replay.{IsLegal};
-ghost use Rattle.law_rows.specs.Rows.{four, two, closing, flushing, FlushingEnds, resetting, saturating, ResettingPlaces, early, other, SaturatingPlaces, SaturatingFalls, SaturatingGiven, EarlyShows, ClosingEnds, UnsupportedEnds};
+ghost use Rattle.law_rows.specs.Rows.{four, two, closing, flushing, FlushingEnds, FlushingLeft, OthersLeft, resetting, saturating, ResettingPlaces, early, other, SaturatingPlaces, SaturatingFalls, SaturatingGiven, EarlyShows, ClosingEnds, UnsupportedEnds};
 
 /// A reset while an item is at work: what comes of it is not shown.
 pub fn resetting_run()
@@ -27,6 +27,12 @@ pub fn early_run()
 pub fn flushing_run()
     ensures legal { IsLegal four flushing }
     ensures ends { FlushingEnds }
+    ensures left { FlushingLeft }
+{}
+
+/// What is left after other runs.
+pub fn what_is_left()
+    ensures { OthersLeft }
 {}
 
 /// Two flushes, two closes, and one more flush.

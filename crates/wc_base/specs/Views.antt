@@ -16,9 +16,3 @@ token_view claim v = record { number = 0; numbers = []; log = v.log; parts = 0; 
 -- it is a token, and this is its view
 abbrev pub IsTokenWith : {E : Type 0} → View E → Badge (View E) → Type 0
 IsTokenWith view token = (token.views ≡ view ∷ []) × (view.phase ≡ Token)
-
--- the token holds the claim with this number, and no other
-pub record IsTokenOf {E : Type 0} (claim : ℕ) (token : Badge (View E)) : Type 0 where
-  pub view : View E
-  pub is_token : IsTokenWith view token
-  pub holds : view.claims ≡ claim ∷ []

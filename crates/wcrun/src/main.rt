@@ -3,6 +3,8 @@
 
 mod calls;
 mod codecs;
+#[cfg(test)]
+mod coder_rows;
 mod command;
 #[cfg(test)]
 mod encode_rows;
