@@ -2,7 +2,7 @@
 
 use crate::notes::Notes;
 use crate::places::{begin_at, say_step_word};
-use crate::rules::{Form, ITEM_WORDS, Wanted, rules_of};
+use crate::rules::{Form, Wanted, rules_of};
 use crate::scan::{byte_at, find_member, inside, next_item, string_at};
 use crate::script::Script;
 use script_types::Place;
@@ -117,9 +117,10 @@ pub fn unknown_in_item(
         list(notes, script, script.callers())?;
         return notes.end();
     }
-    for word in ITEM_WORDS {
-        if let Some(at) = find_member(text, item, word.as_bytes()) {
-            return no_codec(notes, script, place, at, word);
+    for rule in rules_of(Form::Item) {
+        let found = find_member(text, item, rule.name().as_bytes());
+        if let (true, Some(at)) = (rule.is_codec(), found) {
+            return no_codec(notes, script, place, at, rule.name());
         }
     }
     Ok(())

@@ -49,6 +49,11 @@ impl Rule {
     pub fn is_needed(&self) -> bool {
         self.2 == Need::Must
     }
+
+    /// Whether the member names a codec of any kind.
+    pub fn is_codec(&self) -> bool {
+        matches!(self.1, Wanted::Codec)
+    }
 }
 
 /// An object of a script.
@@ -237,9 +242,6 @@ pub fn rules_of(form: Form) -> &'static [Rule] {
         Form::Size => &SIZE,
     }
 }
-
-/// What an item of the order does with a codec.
-pub const ITEM_WORDS: [&str; 4] = ["start", "done", "turn", "reclaim"];
 
 /// The words of `do`, with commas.
 pub const STEP_WORDS: &str =

@@ -2,7 +2,7 @@
 
 use crate::notes::Notes;
 use crate::places::{begin_at, say_step_word};
-use crate::rules::{Form, ITEM_WORDS, Rule, STEP_WORDS, Wanted, rules_of, words_of};
+use crate::rules::{Form, Rule, STEP_WORDS, Wanted, rules_of, words_of};
 use crate::scan::{byte_at, find_member, inside, next_start, past_value, string_at};
 use crate::script::Script;
 use crate::values::{Owner, is_name, may_stand};
@@ -290,10 +290,10 @@ pub fn head(
 fn words_in(text: &[u8], at: usize) -> (usize, bool) {
     let mut count: usize = 0;
     let mut timed = false;
-    for word in ITEM_WORDS {
-        if find_member(text, at, word.as_bytes()).is_some() {
+    for rule in rules_of(Form::Item) {
+        if rule.is_codec() && find_member(text, at, rule.name().as_bytes()).is_some() {
             count = count.saturating_add(1);
-            timed = timed || matches!(word, "done" | "reclaim");
+            timed = timed || matches!(rule.name(), "done" | "reclaim");
         }
     }
     (count, timed)
