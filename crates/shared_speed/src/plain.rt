@@ -58,7 +58,11 @@ fn give_box(job: &mut Job<SampleCoder>)
             codec: 0,
             place: job.place(),
         };
-        let coder = SlotBox::new(coder(), 0, by);
+        let coder = SlotBox::new(
+            SampleCoder::new(Role::Decode, Coding::Pcm(SampleSize::Two)),
+            0,
+            by,
+        );
         if job.lacks() == Some(coder.id()) {
             job.put_box(coder);
         }

@@ -1,5 +1,6 @@
 // Decodes of a shared codec through the seats of one thread.
 ghost use Rattle.std.specs.Prelude.{◌≡◌, ◌≤◌, ◌+◌, ◌^◌, IfOk};
+ghost use Rattle.shared_codec.specs.Calls.{MayAlways};
 ghost use Rattle.shared_speed.specs.Seating.{IsDesk, AreLive, AreKept};
 
 use crate::plain::{WHO, chunk, coder, pcm};
@@ -27,6 +28,41 @@ pub struct Seats {
     pub pool: PoolSeat,
 }
 
+// A call of the codec.
+fn call<R: Wait>(rt: &R, desk: &Desk, seats: &mut Seats, call: Call)
+    requires live { AreLive desk.now seats.old }
+    requires may { MayAlways call }
+    ensures { AreKept desk.now seats.old seats.new }
+{
+    let _ = desk.codec.call(rt, &mut seats.codec, WHO, call);
+}
+
+// An item of the codec at a moment.
+fn work<R: Wait>(rt: &R, alloc: Global, desk: &Desk, seats: &mut Seats, moment: u64)
+    requires desk { IsDesk desk.now }
+    requires live { AreLive desk.now seats.old }
+    ensures { AreKept desk.now seats.old seats.new }
+{
+    let _ = desk.codec.work_once(
+        rt,
+        alloc,
+        &mut seats.codec,
+        &desk.slots,
+        &mut seats.slots,
+        &desk.pool,
+        &mut seats.pool,
+        moment,
+    );
+}
+
+// A turn of the codec.
+fn turn<R: Wait>(rt: &R, desk: &Desk, seats: &mut Seats)
+    requires live { AreLive desk.now seats.old }
+    ensures { AreKept desk.now seats.old seats.new }
+{
+    let _ = desk.codec.turn(rt, &mut seats.codec);
+}
+
 /// So many decodes, each with an item and two turns.
 pub fn decode_many<R: Wait>(
     rt: &R,
@@ -44,21 +80,11 @@ pub fn decode_many<R: Wait>(
     };
     for moment in 0..count {
         if let Ok(chunk) = chunk.copy() {
-            let call = Call::Decode(chunk);
-            let _ = desk.codec.call(rt, &mut seats.codec, WHO, call);
+            call(rt, desk, &mut seats, Call::Decode(chunk));
         }
-        let _ = desk.codec.work_once(
-            rt,
-            alloc,
-            &mut seats.codec,
-            &desk.slots,
-            &mut seats.slots,
-            &desk.pool,
-            &mut seats.pool,
-            moment,
-        );
-        let _ = desk.codec.turn(rt, &mut seats.codec);
-        let _ = desk.codec.turn(rt, &mut seats.codec);
+        work(rt, alloc, desk, &mut seats, moment);
+        turn(rt, desk, &mut seats);
+        turn(rt, desk, &mut seats);
     }
     seats
 }
@@ -70,21 +96,11 @@ pub fn configure<R: Wait>(rt: &R, alloc: Global, desk: &Desk, mut seats: Seats) 
     ensures { AreKept desk.now seats result }
 {
     if let Ok(config) = pcm(alloc) {
-        let call = Call::Configure(config);
-        let _ = desk.codec.call(rt, &mut seats.codec, WHO, call);
+        call(rt, desk, &mut seats, Call::Configure(config));
     }
-    let _ = desk.codec.work_once(
-        rt,
-        alloc,
-        &mut seats.codec,
-        &desk.slots,
-        &mut seats.slots,
-        &desk.pool,
-        &mut seats.pool,
-        0,
-    );
-    let _ = desk.codec.turn(rt, &mut seats.codec);
-    let _ = desk.codec.turn(rt, &mut seats.codec);
+    work(rt, alloc, desk, &mut seats, 0);
+    turn(rt, desk, &mut seats);
+    turn(rt, desk, &mut seats);
     seats
 }
 
