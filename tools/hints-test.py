@@ -65,7 +65,7 @@ ROWS = [
     ("a chunk of a file with no number", '"init":{"type":"key","timestamp":0,"data":"01000200"}', '"file":"speech"', "script: shape at step 0 1",
      's.json:6:3: step 1 of caller a: it has "file"; either "init" or both "file" and "index" is wanted'),
     ("a kind that is none", '"kind":"audio-decoder"', '"kind":"audiodecoder"', "script: shape at codec 0",
-     's.json:2:22: codec 0: "kind" is "audiodecoder"; audio-decoder, audio-encoder or video-decoder is wanted'),
+     's.json:2:22: codec 0: "kind" is "audiodecoder"; audio-decoder, audio-encoder, video-decoder or video-encoder is wanted'),
     ("a saturation of 0", '"kind":"audio-decoder"', '"kind":"audio-decoder","saturation":0', "script: shape at codec 0",
      's.json:2:51: codec 0: "saturation" is 0; a number from 1 to 64 is wanted'),
     ("a codec's name twice", '"name":"e"', '"name":"d"', "script: twice at codec 1",

@@ -1,7 +1,7 @@
 #!/usr/bin/env bash
-# A delta chunk of raw video, of an I420 picture, and a plain C loop (gcc -O2): instructions by callgrind, and microseconds a
-# chunk, the best of seven runs in turn: tools/raw-speed.sh [WIDTH HEIGHT [ROUNDS]]. Wants valgrind and gcc, and
-# crates/raw_speed built (rt run in crates/raw_speed).
+# A delta chunk of raw video, of an I420 picture, decoded and encoded; a plain C loop of each (gcc -O2), and a memcpy of as many
+# bytes: instructions by callgrind, and microseconds a chunk, the best of seven runs in turn:
+# tools/raw-speed.sh [WIDTH HEIGHT [ROUNDS]]. Wants valgrind and gcc, and crates/raw_speed built (rt run in crates/raw_speed).
 cd "$(dirname "$0")/.." || exit 2
 width=${1:-1920} height=${2:-1080} rounds=${3:-500}
 program=crates/raw_speed/out/raw_speed
@@ -30,14 +30,26 @@ least() {
     if [ -z "$2" ] || [ "$1" -lt "$2" ]; then echo "$1"; else echo "$2"; fi
 }
 
-best_loop='' best_chunk=''
+# command NAME: what each row runs, without the number of its rounds
+declare -A command=(
+    [decoded]="$program decode $width $height" [loop_decoded]="$work/deltas add $bytes"
+    [encoded]="$program encode $width $height" [loop_encoded]="$work/deltas less $bytes"
+    [memcpy]="$work/deltas copy $bytes"
+)
+rows="loop_decoded decoded loop_encoded encoded memcpy"
+
+declare -A best
 for _ in 1 2 3 4 5 6 7; do
-    best_loop=$(least "$(rounds_of "$work/deltas" "$bytes")" "$best_loop")
-    best_chunk=$(least "$(rounds_of "$program" "$width" "$height")" "$best_chunk")
+    for row in $rows; do
+        # shellcheck disable=SC2086
+        best[$row]=$(least "$(rounds_of ${command[$row]})" "${best[$row]}")
+    done
 done
-loop=$(($(count "$work/deltas" "$bytes" 3) - $(count "$work/deltas" "$bytes" 2)))
-chunk=$(($(count "$program" "$width" "$height" 3) - $(count "$program" "$width" "$height" 2)))
-printf '%-6s %14s %14s\n' '' instructions microseconds
-awk -v i="$loop" -v t="$best_loop" -v n="$rounds" 'BEGIN {printf "%-6s %14d %14.1f\n", "loop", i, t / n / 1000}'
-awk -v i="$chunk" -v t="$best_chunk" -v n="$rounds" 'BEGIN {printf "%-6s %14d %14.1f\n", "chunk", i, t / n / 1000}'
-awk -v a="$chunk" -v b="$loop" -v c="$best_chunk" -v d="$best_loop" 'BEGIN {printf "%-6s %14.2f %14.2f\n", "times", a / b, c / d}'
+printf '%-13s %14s %14s\n' '' instructions microseconds
+for row in $rows; do
+    # shellcheck disable=SC2086
+    instructions=$(($(count ${command[$row]} 3) - $(count ${command[$row]} 2)))
+    awk -v r="${row/_/, }" -v i="$instructions" -v t="${best[$row]}" -v n="$rounds" 'BEGIN {printf "%-13s %14d %14.1f\n", r, i, t / n / 1000}'
+done
+awk -v a="${best[decoded]}" -v b="${best[loop_decoded]}" -v c="${best[encoded]}" -v d="${best[loop_encoded]}" -v m="${best[memcpy]}" \
+    'BEGIN {printf "decoded: %.2f of the loop; encoded: %.2f of the loop, %.2f of the memcpy\n", a / b, c / d, c / m}'

@@ -38,6 +38,7 @@ config : (c : Config) → HasSmallNumbers c → IsConfigWithin c
 config (Config.AudioDecoder c) h = h
 config (Config.AudioEncoder c) h = h
 config (Config.VideoDecoder c) h = (size c.width h.0, size c.height h.1)
+config (Config.VideoEncoder c) h = tt
 config Config.Bad h = tt
 
 fits : (o : Option ℕ) → IfSome o (λ n. n < 2 ^ 64) → FitsOrAbsent o
@@ -79,6 +80,6 @@ spelled_within scripts files f bytes s media made is few =
       configs = λ c j on x there. config x (step_at s h c j _ there);
       chunks = λ c j x chunk there by. from_step media all x (step_at s h c j x there) chunk by;
       sounds = λ c j bind init there. let small = step_at s h c j _ there in ((small.frames, small.timestamp), small.content);
-      frames = λ c j bind init there. step_at s h c j _ there;
+      frames = λ c j bind init there. let small = step_at s h c j _ there in ((small.timestamp, fits init.shape.duration small.duration), small.content);
       boxes = few;
     }

@@ -206,7 +206,7 @@ removal_moved slot who x s is e home = by_removals (λ y. call_error y s.control
 removes_else : (x : Call) (c : Control) → sends x ≡ false → takes x ≡ false → call_error x c ≡ None → removes x ≡ true
 removes_else Call.Reset c s t e = refl
 removes_else Call.Close c s t e = refl
-removes_else (Call.Encode (Handed.Cloned sound)) c s t e = absurd cc
+removes_else (Call.Encode (Handed.Cloned medium)) c s t e = absurd cc
 removes_else (Call.Encode Handed.Gone) c s t e = absurd cc
 removes_else (Call.Encode Handed.Kept) c s t e = absurd cc
 removes_else x c s t e = absurd cc

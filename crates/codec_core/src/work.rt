@@ -4,13 +4,14 @@ ghost use Rattle.coder_api.specs.Meaning.{IsConfigured};
 ghost use Rattle.codec_definitions.specs.declared.command.Command.TheVariants as command;
 ghost use Rattle.codec_core.specs.Job.{EndsCommand, EndsWork, IsReady, IsReadyBox, end_by, holds, missing_for, outcome_of};
 ghost use Rattle.codec_model.specs.declared.entry.Work.TheVariants as work;
-ghost use Rattle.codec_model.specs.Replay.{command_of};
+ghost use Rattle.codec_model.specs.Replay.{command_of, medium_command};
 
 use crate::labels::label_end;
-use codec_model::{Coded, Ended, Outcome, Work};
+use bytes::Bytes;
+use codec_model::{Coded, Ended, HeldMedium, MediaShape, Outcome, Work};
 use coder_api::{Coder, CoderFault, Input, SlotBox, Unit};
 use std::alloc::Global;
-use wc_base::{List, Samples};
+use wc_base::{List, PictureShape, SoundShape};
 use wc_chunk::Chunk;
 use wc_config::{CoderId, Config, Role};
 
@@ -75,18 +76,56 @@ fn push_end<C: Coder>(alloc: Global, chunk: &Chunk, coder: &mut SlotBox<C>) -> E
 }
 
 /// Gives samples to a configured coder.
-fn sound_end<C: Coder>(alloc: Global, samples: &Samples, coder: &mut SlotBox<C>) -> Ended
+fn sound_end<C: Coder>(
+    alloc: Global,
+    shape: &SoundShape,
+    bytes: &Bytes,
+    coder: &mut SlotBox<C>,
+) -> Ended
     requires { IsConfigured coder.old.meaning }
-    ensures { EndsCommand coder.old (command.Sound samples.now) result coder.new }
+    ensures { EndsCommand coder.old
+        (command.Sound (record { shape = shape.now; bytes = bytes.now })) result coder.new }
 {
     // A decoder takes no samples.
     if coder.id().role != Role::Encode {
         return Ended::Refused;
     }
     let mut units = Vec::new(alloc);
-    let input = Input::Sound(&samples.shape, samples.bytes.as_slice());
+    let input = Input::Sound(shape, bytes.as_slice());
     let answer = coder.push(alloc, &input, &mut units);
     end_of(answer, units)
+}
+
+/// Gives a picture to a configured coder.
+fn image_end<C: Coder>(
+    alloc: Global,
+    shape: &PictureShape,
+    bytes: &Bytes,
+    coder: &mut SlotBox<C>,
+) -> Ended
+    requires { IsConfigured coder.old.meaning }
+    ensures { EndsCommand coder.old
+        (command.Image (record { shape = shape.now; bytes = bytes.now })) result coder.new }
+{
+    // A decoder takes no picture.
+    if coder.id().role == Role::Decode {
+        return Ended::Refused;
+    }
+    let mut units = Vec::new(alloc);
+    let answer = coder.push(alloc, &Input::Image(shape, bytes), &mut units);
+    end_of(answer, units)
+}
+
+/// Gives a medium to a configured coder.
+fn medium_end<C: Coder>(alloc: Global, medium: &HeldMedium, coder: &mut SlotBox<C>) -> Ended
+    requires { IsConfigured coder.old.meaning }
+    ensures { EndsCommand coder.old
+        (medium_command medium.now.shape medium.now.bytes) result coder.new }
+{
+    match &medium.shape {
+        MediaShape::Sound(shape) => sound_end(alloc, shape, &medium.bytes, coder),
+        MediaShape::Image(shape) => image_end(alloc, shape, &medium.bytes, coder),
+    }
 }
 
 /// Gives an input to a configured coder.
@@ -96,7 +135,7 @@ fn input_end<C: Coder>(alloc: Global, input: &Coded, coder: &mut SlotBox<C>) -> 
 {
     match input {
         Coded::Chunk(chunk) => push_end(alloc, chunk, coder),
-        Coded::Sound(sound) => sound_end(alloc, &sound.samples, coder),
+        Coded::Medium(medium) => medium_end(alloc, medium, coder),
     }
 }
 

@@ -14,6 +14,7 @@ use Rattle.codec_definitions.specs.SampleCodecs.{SampleCodec, sample_codec, samp
 use Rattle.codec_definitions.specs.Flac.{described, flac_decoder}
 use Rattle.codec_definitions.specs.FlacEncoder.{blocks_answer}
 use Rattle.codec_definitions.specs.RawVideo.{raw_shape, raw_decoder}
+use Rattle.codec_definitions.specs.RawVideoEncoder.{coded_shape, raw_encoder}
 
 -- no codec: a drain gives nothing, since nothing was taken, and any other command is refused
 abbrev pub undefined_answer : Command → Option (List unit.Unit)
@@ -41,6 +42,7 @@ abbrev pub answer_after : CoderId → Config → List Command → Command → Op
 answer_after id (config.AudioDecoder c) before x = audio_decoder_answer id.codec c x
 answer_after id (config.AudioEncoder c) before x = audio_encoder_answer id.codec c before x
 answer_after id (config.VideoDecoder c) before x = raw_decoder (raw_shape id.codec c) before x
+answer_after id (config.VideoEncoder c) before x = raw_encoder (coded_shape id.codec c) c.key_interval before x
 answer_after id config.Bad before x = undefined_answer x
 
 -- an answer and those after it, of which a refusal leaves none

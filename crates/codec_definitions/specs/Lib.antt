@@ -5,4 +5,5 @@ pub mod FlacEncoder
 pub mod G711
 pub mod Pcm
 pub mod RawVideo
+pub mod RawVideoEncoder
 pub mod SampleCodecs

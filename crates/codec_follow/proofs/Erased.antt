@@ -69,7 +69,7 @@ error_erased x c = grind arith
 accepted_erased : (x : Call) (c : Control) → accepted x (erased c) ≡ erased (accepted x c)
 accepted_erased (Call.Configure config) c = process_erased (c.messages ++ _ ∷ []) _
 accepted_erased (Call.Decode chunk) c = process_erased (c.messages ++ _ ∷ []) _
-accepted_erased (Call.Encode (Handed.Cloned sound)) c = process_erased (c.messages ++ _ ∷ []) _
+accepted_erased (Call.Encode (Handed.Cloned medium)) c = process_erased (c.messages ++ _ ∷ []) _
 accepted_erased Call.Flush c = process_erased (c.messages ++ _ ∷ []) _
 accepted_erased Call.Reset c = reset_erased (at_next_place c)
 accepted_erased Call.Close c = close_erased (at_next_place c)

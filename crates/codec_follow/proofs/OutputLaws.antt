@@ -10,6 +10,7 @@ use Rattle.wc_chunk.specs.declared.chunk.Chunk.{Chunk}
 use Rattle.codec_definitions.specs.declared.unit.Unit as media
 use Rattle.codec_definitions.specs.declared.unit.Unit.TheVariants as unit
 use Rattle.codec_definitions.specs.{Flac.described, FlacCode.stream_description}
+use Rattle.codec_definitions.specs.RawVideoEncoder.{picture_chunk, pictures_since_drain}
 use Rattle.coder_api.specs.Meaning.{description_for}
 use Rattle.codec_model.specs.{declared.entry.Handed.Handed, declared.entry.Call.Call, declared.entry.Entry.Entry, declared.entry.Shown.Shown, Replay.decoder_config}
 use Rattle.codec_model.specs.Shown.{units_in, each_shown, units_shown}
@@ -49,6 +50,7 @@ each_own k = record {
   chunk = λ id s c before samples is own. (chunk_own k c (coded_chunk s samples) own, tt);
   blocks = λ c before x us h own. blocks_where (IsOutputOf k) c (λ number values place few. chunk_own k c _ own) us (answers_blocks c before x us h);
   picture = λ id c shape before chunk bytes is last own. (elim k as (λ j. IsOwn j (Config.VideoDecoder c) → IsOutputOf j (unit.Image (picture_given shape chunk bytes))) [ Kind.VideoDecoder ↦ λ h. h | _ ↦ λ h. absurd h ] own, tt);
+  coded = λ id c shape before picture is taken own. (elim k as (λ j. IsOwn j (Config.VideoEncoder c) → IsOutputOf j (picture_chunk c.key_interval (pictures_since_drain before) picture)) [ Kind.VideoEncoder ↦ λ h. h | _ ↦ λ h. absurd h ] own, tt);
 }
 
 -- ---- a config that is valid and of the codec's kind
@@ -67,19 +69,30 @@ plain_description c = described_where IsPlainDescription c tt (elim (stream_desc
 plain_label : (c : Config) (d : AudioDecoderConfig) → is_some (coder_id_of c) ≡ true → decoder_config c ≡ Some d → IsPlainConfig (Some d)
 plain_label c d coder is = grind (arith, known_text, plain_description, coder, is)
 
+-- what a video encoder codes by carries no config
+no_label : (c : Config) (d : AudioDecoderConfig) → IsOwn Kind.VideoEncoder c → decoder_config c ≡ Some d → ⊥
+no_label (Config.VideoEncoder c) d own is = cc
+no_label Config.Bad d own is = cc
+no_label (Config.AudioDecoder c) d own is = own
+no_label (Config.AudioEncoder c) d own is = own
+no_label (Config.VideoDecoder c) d own is = own
+
 relabelled : (k : Kind) (c : Chunk) (old new : Option AudioDecoderConfig) → MayCarry (IsOwn k) new → IsOutputOf k (unit.Coded c old) → IsOutputOf k (unit.Coded c new)
 relabelled Kind.AudioEncoder c old None may h = tt
 relabelled Kind.AudioEncoder c old (Some d) may h = plain_label may.config d may.has_coder may.decodes
-relabelled _ c old new may h = h
+relabelled Kind.VideoEncoder c old None may h = tt
+relabelled Kind.VideoEncoder c old (Some d) may h = no_label may.config d may.passed may.decodes
+relabelled Kind.AudioDecoder c old new may h = h
+relabelled Kind.VideoDecoder c old new may h = h
 
 -- the outputs of a codec of this kind
 abbrev judge_of : Kind → Judge
 judge_of k = record {
   config = IsOwn k;
-  chunk = λ chunk. Unit {0};
-  sound = λ samples. Unit {0};
+  input = λ x. Unit {0};
   output = IsOutputOf k;
   nothing = elim k as (λ j. IsOwn j Config.Bad) [ Kind.AudioDecoder ↦ tt | _ ↦ tt ];
+  drained = tt;
   gives = λ id c before x us own input h. by_answers (λ d b y vs. IsOwn k d → AllOf k vs) (each_own k) id c before x us h own;
   relabel = relabelled k;
 }
@@ -87,7 +100,7 @@ judge_of k = record {
 entries_own : (k : Kind) (es : List Entry) → AllByRecursion (ConfiguresAs k) es → AllByRecursion (HoldsOwn (judge_of k)) es
 entries_own k [] own = tt
 entries_own k (Entry.Call who (Call.Configure c) ∷ es) own = (own_config k c own.0, entries_own k es own.1)
-entries_own k (Entry.Call who (Call.Encode (Handed.Cloned sound)) ∷ es) own = (tt, entries_own k es own.1)
+entries_own k (Entry.Call who (Call.Encode (Handed.Cloned medium)) ∷ es) own = (tt, entries_own k es own.1)
 entries_own k (e ∷ es) own = (tt, entries_own k es own.1)
 
 units_own : (k : Kind) (xs : List Shown) → AllByRecursion (λ x. AllOf k (units_in x.events)) xs → AllOf k (units_shown xs)

@@ -1,5 +1,5 @@
--- The outputs that a codec may show, by its kind (W3C WebCodecs, the output callbacks of AudioDecoder, AudioEncoder and
--- VideoDecoder).
+-- The outputs that a codec may show, by its kind (W3C WebCodecs, the output callbacks of AudioDecoder, AudioEncoder,
+-- VideoDecoder and VideoEncoder).
 use Rattle.std.specs.Prelude.{ℕ, ◌≡◌, ◌<◌, ◌||◌, Bool, true, false, pos, List, [], ◌∷◌, Option, Some, None, is_some}
 use Rattle.wc_base.specs.declared.media.SampleFormat.TheVariants as sample
 use Rattle.wc_base.specs.declared.media.PictureFormat.TheVariants as picture
@@ -30,11 +30,13 @@ abbrev pub IsPlainConfig : Option AudioDecoderConfig → Type 0
 IsPlainConfig None = Unit {0}
 IsPlainConfig (Some c) = (is_codec_string c.codec ≡ true) × IsPlainDescription c.description
 
--- an audio decoder gives samples, whose rate is above 0; an audio encoder gives chunks; a video decoder gives pictures
+-- an audio decoder gives samples, whose rate is above 0; an audio encoder gives chunks; a video decoder gives pictures; a video
+-- encoder gives chunks that carry no config
 abbrev pub IsOutputOf : Kind → media.Unit → Type 0
 IsOutputOf kind.AudioDecoder (unit.Sound samples) = 0 < samples.shape.rate
 IsOutputOf kind.AudioEncoder (unit.Coded chunk config) = IsPlainConfig config
 IsOutputOf kind.VideoDecoder (unit.Image picture) = Unit {0}
+IsOutputOf kind.VideoEncoder (unit.Coded chunk None) = Unit {0}
 IsOutputOf k u = ⊥
 
 -- the config is one of the codec's kind, or breaks a rule of WebIDL
@@ -42,6 +44,7 @@ abbrev pub IsConfigOf : Kind → Config → Type 0
 IsConfigOf kind.AudioDecoder (config.AudioDecoder c) = Unit {0}
 IsConfigOf kind.AudioEncoder (config.AudioEncoder c) = Unit {0}
 IsConfigOf kind.VideoDecoder (config.VideoDecoder c) = Unit {0}
+IsConfigOf kind.VideoEncoder (config.VideoEncoder c) = Unit {0}
 IsConfigOf k config.Bad = Unit {0}
 IsConfigOf k c = ⊥
 
@@ -55,3 +58,4 @@ abbrev pub empty_output : Kind → media.Unit
 empty_output kind.AudioDecoder = unit.Sound (record { shape = record { format = sample.U8; rate = 1; channels = 1; frames = 0; timestamp = pos 0 }; bytes = [] })
 empty_output kind.AudioEncoder = unit.Coded (record { key = false; timestamp = pos 0; duration = None; bytes = [] }) None
 empty_output kind.VideoDecoder = unit.Image (record { shape = record { format = picture.I420; width = 0; height = 0; timestamp = pos 0; duration = None }; bytes = [] })
+empty_output kind.VideoEncoder = unit.Coded (record { key = false; timestamp = pos 0; duration = None; bytes = [] }) None

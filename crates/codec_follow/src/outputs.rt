@@ -26,7 +26,8 @@ fn empty_samples() -> Samples
 }
 
 fn empty_chunk() -> Chunk
-    ensures { the_empty kinds.AudioEncoder ≡ unit.Coded result None }
+    ensures audio { the_empty kinds.AudioEncoder ≡ unit.Coded result None }
+    ensures video { the_empty kinds.VideoEncoder ≡ unit.Coded result None }
 {
     Chunk {
         key: false,
@@ -57,7 +58,7 @@ pub fn empty_output(kind: Kind) -> Unit
 {
     match kind {
         Kind::AudioDecoder => Unit::Sound(empty_samples()),
-        Kind::AudioEncoder => Unit::Coded {
+        Kind::AudioEncoder | Kind::VideoEncoder => Unit::Coded {
             chunk: empty_chunk(),
             config: None,
         },

@@ -129,7 +129,7 @@ sent_course who y w s x m e = ap (λ (o : Option DomError). course_at (Entry.Cal
     by : (y : Call) → message_of y ≡ Some w → course_at (Entry.Call who y) (call_shown y None s) s x ≡ plain (message_of y) x
     by (Call.Configure config) m = settle (plain (Some (Work.Configure config)) x)
     by (Call.Decode chunk) m = settle (plain (Some (Work.Coded (Coded.Chunk chunk))) x)
-    by (Call.Encode (Handed.Cloned sound)) m = settle (plain (Some (Work.Coded (Coded.Sound sound))) x)
+    by (Call.Encode (Handed.Cloned medium)) m = settle (plain (Some (Work.Coded (Coded.Medium medium))) x)
     by Call.Flush m = settle (plain (Some Work.Flush) x)
     by y m = absurd cc
 

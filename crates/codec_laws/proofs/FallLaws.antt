@@ -80,7 +80,7 @@ call_falls who y w s m = subst (λ (o : Option Work). Falls o s.control (accepte
     by : (y : Call) → message_of y ≡ Some w → Falls (message_of y) s.control (accepted y s.control)
     by (Call.Configure config) m = sent_falls (Work.Configure config) s _ refl (omega arith) refl
     by (Call.Decode chunk) m = sent_falls (Work.Coded (Coded.Chunk chunk)) s _ refl refl refl
-    by (Call.Encode (Handed.Cloned sound)) m = sent_falls (Work.Coded (Coded.Sound sound)) s _ refl refl refl
+    by (Call.Encode (Handed.Cloned medium)) m = sent_falls (Work.Coded (Coded.Medium medium)) s _ refl refl refl
     by Call.Flush m = sent_falls Work.Flush s _ refl (omega arith) refl
     by y m = absurd cc
 

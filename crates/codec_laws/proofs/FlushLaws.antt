@@ -64,7 +64,7 @@ told_more o ph k (Entry.Call who (Call.Configure config)) ys none = refl
 told_more o ph k (Entry.Call who (Call.Decode chunk)) ys none = refl
 told_more o ph k (Entry.Call who (Call.Encode Handed.Gone)) ys none = refl
 told_more o ph k (Entry.Call who (Call.Encode Handed.Kept)) ys none = refl
-told_more o ph k (Entry.Call who (Call.Encode (Handed.Cloned sound))) ys none = refl
+told_more o ph k (Entry.Call who (Call.Encode (Handed.Cloned medium))) ys none = refl
 told_more o ph k (Entry.Call who Call.Flush) ys none = absurd (omega (arith, none))
 told_more o ph k e ys none = refl
 

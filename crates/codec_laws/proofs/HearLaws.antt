@@ -21,7 +21,7 @@ use Rattle.codec_laws.proofs.OutLaws.{Outs, yields, parts, step_outs}
 -- ---- works apart from references
 
 abbrev pub work_alone : Work → Work
-work_alone (Work.Coded (Coded.Sound sound)) = Work.Coded (Coded.Sound (unnamed sound))
+work_alone (Work.Coded (Coded.Medium medium)) = Work.Coded (Coded.Medium (unnamed medium))
 work_alone w = w
 
 abbrev pub alone : List Asked → List Work
@@ -35,13 +35,13 @@ parts_alone (w ∷ ws) g = yields w g ∷ parts_alone ws (given_more w g)
 given_alone : (w : Work) (g : Given) → given_more (work_alone w) g ≡ given_more w g
 given_alone (Work.Configure c) g = refl
 given_alone (Work.Coded (Coded.Chunk chunk)) g = refl
-given_alone (Work.Coded (Coded.Sound sound)) g = refl
+given_alone (Work.Coded (Coded.Medium medium)) g = refl
 given_alone Work.Flush g = refl
 
 yields_alone : (w : Work) (g : Given) → yields (work_alone w) g ≡ yields w g
 yields_alone (Work.Configure c) g = refl
 yields_alone (Work.Coded (Coded.Chunk chunk)) g = refl
-yields_alone (Work.Coded (Coded.Sound sound)) g = refl
+yields_alone (Work.Coded (Coded.Medium medium)) g = refl
 yields_alone Work.Flush g = refl
 
 pub parts_are : (qs : List Asked) (g : Given) → parts qs g ≡ parts_alone (alone qs) g
@@ -96,7 +96,7 @@ heard_more o p k (Entry.Call who (Call.Configure config)) ys = refl
 heard_more o p k (Entry.Call who (Call.Decode chunk)) ys = refl
 heard_more o p k (Entry.Call who (Call.Encode Handed.Gone)) ys = refl
 heard_more o p k (Entry.Call who (Call.Encode Handed.Kept)) ys = refl
-heard_more o p k (Entry.Call who (Call.Encode (Handed.Cloned sound))) ys = refl
+heard_more o p k (Entry.Call who (Call.Encode (Handed.Cloned medium))) ys = refl
 heard_more o p k (Entry.Call who Call.Flush) ys = refl
 heard_more o p k (Entry.Call who Call.Reset) ys = silent (refuses_call o p k Call.Reset)
   where
@@ -161,7 +161,7 @@ sent_hears who y w s m e none =
     by : (y : Call) → message_of y ≡ Some w → refuses_call s.control.opening s.control.phase s.control.key_required y ≡ false → Hears (message_of y) (option_map work_alone (message_of y)) (phase_by s.control.opening s.control.phase s.control.key_required y) (key_by s.control.opening s.control.phase s.control.key_required y) s.control (accepted y s.control)
     by (Call.Configure config) m is = rw is (queued_hears (Work.Configure config) _ _ s.control _ refl refl refl refl)
     by (Call.Decode chunk) m is = rw is (queued_hears (Work.Coded (Coded.Chunk chunk)) _ _ s.control _ refl refl refl refl)
-    by (Call.Encode (Handed.Cloned sound)) m is = queued_hears (Work.Coded (Coded.Sound sound)) _ _ s.control _ refl refl refl refl
+    by (Call.Encode (Handed.Cloned medium)) m is = queued_hears (Work.Coded (Coded.Medium medium)) _ _ s.control _ refl refl refl refl
     by Call.Flush m is = rw is (queued_hears Work.Flush _ _ s.control _ refl refl refl refl)
     by y m is = absurd cc
 

@@ -65,7 +65,7 @@ sent_on y w c m may e = subst (λ (v : Work). (kind_of v ≡ WorkKind.Configure)
     by : (y : Call) → message_of y ≡ Some w → may_call y c ≡ true → call_error y c ≡ None → ((kind_of (unwrap_or (message_of y) w) ≡ WorkKind.Configure) ⊎ (c.phase ≡ CodecState.Configured)) × (unwrap_or (message_of y) w ≡ w)
     by (Call.Configure config) m may e = (inl refl, some_same _ w m)
     by (Call.Decode chunk) m may e = (inr (phase_on (λ p. decode_error chunk (record c { phase = p }) ≡ None) c e (λ k. absurd cc) (λ k. absurd cc)), some_same _ w m)
-    by (Call.Encode (Handed.Cloned sound)) m may e = (inr (phase_on (λ p. is_configured (record c { phase = p }) ≡ true) c may (λ k. absurd cc) (λ k. absurd cc)), some_same _ w m)
+    by (Call.Encode (Handed.Cloned medium)) m may e = (inr (phase_on (λ p. is_configured (record c { phase = p }) ≡ true) c may (λ k. absurd cc) (λ k. absurd cc)), some_same _ w m)
     by Call.Flush m may e = (inr (phase_on (λ p. flush_error (record c { phase = p }) ≡ None) c e (λ k. absurd cc) (λ k. absurd cc)), some_same _ w m)
     by y m may e = absurd cc
 

@@ -155,7 +155,7 @@ sent_promises y w x c m h = subst (λ (v : Option Work). Promises (plain v x) (a
     by : (y : Call) → message_of y ≡ Some w → Promises (plain (message_of y) x) (accepted y c)
     by (Call.Configure config) m = queued_promises (Work.Configure config) x c _ refl refl refl (sym (append-nil c.pending)) refl h
     by (Call.Decode chunk) m = queued_promises (Work.Coded (Coded.Chunk chunk)) x c _ refl refl refl (sym (append-nil c.pending)) refl h
-    by (Call.Encode (Handed.Cloned sound)) m = queued_promises (Work.Coded (Coded.Sound sound)) x c _ refl refl refl (sym (append-nil c.pending)) refl h
+    by (Call.Encode (Handed.Cloned medium)) m = queued_promises (Work.Coded (Coded.Medium medium)) x c _ refl refl refl (sym (append-nil c.pending)) refl h
     by Call.Flush m = queued_promises Work.Flush x c _ refl refl refl refl refl h
     by y m = absurd cc
 
@@ -341,7 +341,7 @@ sent_conserves p who y w s m e = rw e (by y m)
     by : (y : Call) → message_of y ≡ Some w → own_ends p (ends_of (accepted_shows y s.control.pending)) + count p (accepted y s.control).pending ≡ count p s.control.pending + flushed_at p (Entry.Call who y) s.control.place
     by (Call.Configure config) m = sent_pending p (Work.Configure config) s.control _ 0 refl (omega arith)
     by (Call.Decode chunk) m = sent_pending p (Work.Coded (Coded.Chunk chunk)) s.control _ 0 refl (omega arith)
-    by (Call.Encode (Handed.Cloned sound)) m = sent_pending p (Work.Coded (Coded.Sound sound)) s.control _ 0 refl (omega arith)
+    by (Call.Encode (Handed.Cloned medium)) m = sent_pending p (Work.Coded (Coded.Medium medium)) s.control _ 0 refl (omega arith)
     by Call.Flush m = sent_pending p Work.Flush s.control _ _ refl (sum_by_push (λ (n : ℕ). bit (eqb n p)) s.control.pending s.control.place)
     by y m = absurd cc
 

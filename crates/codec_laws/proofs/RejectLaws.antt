@@ -88,7 +88,7 @@ flush_bit (Entry.Call who (Call.Configure config)) [] p place h = absurd cc
 flush_bit (Entry.Call who (Call.Decode chunk)) [] p place h = absurd cc
 flush_bit (Entry.Call who (Call.Encode Handed.Gone)) [] p place h = absurd cc
 flush_bit (Entry.Call who (Call.Encode Handed.Kept)) [] p place h = absurd cc
-flush_bit (Entry.Call who (Call.Encode (Handed.Cloned sound))) [] p place h = absurd cc
+flush_bit (Entry.Call who (Call.Encode (Handed.Cloned medium))) [] p place h = absurd cc
 flush_bit (Entry.Call who y) [] p place h = absurd cc
 flush_bit e xs p place h = absurd cc
 

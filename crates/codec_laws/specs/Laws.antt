@@ -7,7 +7,7 @@ use Rattle.codec_definitions.specs.Answers.{units_of}
 use Rattle.codec_model.specs.declared.entry.Opening.{Opening}
 use Rattle.codec_model.specs.declared.entry.Call.{Call}
 use Rattle.codec_model.specs.declared.entry.Call.TheVariants as call
-use Rattle.codec_model.specs.declared.entry.HeldSound.{HeldSound}
+use Rattle.codec_model.specs.declared.entry.HeldMedium.{HeldMedium}
 use Rattle.codec_model.specs.declared.entry.Entry.{Entry}
 use Rattle.codec_model.specs.declared.entry.Entry.TheVariants as entry
 use Rattle.codec_model.specs.declared.entry.Handed.TheVariants as handed
@@ -127,17 +127,17 @@ SizeFalls = (o : Opening) (h : List Entry) → 1 ≤ o.saturation → IsLegal o 
 
 -- ---- same outputs
 
--- samples with no reference to them
-abbrev pub unnamed : HeldSound → HeldSound
-unnamed sound = record sound { pair = record { resource = 0; reference = 0 } }
+-- a medium with no reference to it
+abbrev pub unnamed : HeldMedium → HeldMedium
+unnamed medium = record medium { pair = record { resource = 0; reference = 0 } }
 
--- what a call asks for or would ask for, apart from who makes it; an encode's data apart from its reference
+-- what a call asks for or would ask for, apart from who makes it; an encode's medium apart from its reference
 abbrev pub call_alone : Entry → List Call
 call_alone (entry.Call who (call.Configure config)) = call.Configure config ∷ []
 call_alone (entry.Call who (call.Decode chunk)) = call.Decode chunk ∷ []
 call_alone (entry.Call who (call.Encode handed.Gone)) = call.Encode handed.Gone ∷ []
 call_alone (entry.Call who (call.Encode handed.Kept)) = call.Encode handed.Kept ∷ []
-call_alone (entry.Call who (call.Encode (handed.Cloned sound))) = call.Encode (handed.Cloned (unnamed sound)) ∷ []
+call_alone (entry.Call who (call.Encode (handed.Cloned medium))) = call.Encode (handed.Cloned (unnamed medium)) ∷ []
 call_alone (entry.Call who call.Flush) = call.Flush ∷ []
 call_alone e = []
 

@@ -31,11 +31,11 @@ call_holds moves old new who x removed working waiting after m is none left h =
 
 -- a call that adds a reference sends a message, and removes nothing
 pub adds_sends : (who : Who) (x : Call) (p : Pair) → adds_held (Entry.Call who x) ≡ p ∷ [] → sends x ≡ true
-adds_sends who (Call.Encode (Handed.Cloned sound)) p h = refl
+adds_sends who (Call.Encode (Handed.Cloned medium)) p h = refl
 adds_sends who x p h = absurd cc
 
 pub adds_stays : (who : Who) (x : Call) (p : Pair) (s : State) → adds_held (Entry.Call who x) ≡ p ∷ [] → is_removal (Entry.Call who x) s ≡ false
-adds_stays who (Call.Encode (Handed.Cloned sound)) p s h = refl
+adds_stays who (Call.Encode (Handed.Cloned medium)) p s h = refl
 adds_stays who x p s h = absurd cc
 
 -- an encode adds its reference behind those that wait

@@ -192,7 +192,7 @@ module _ (p : ℕ) where
   sent_sound : (x : Call) (w : Work) (c : Control) → message_of x ≡ Some w → IsSound c → IsSound (accepted x c)
   sent_sound (Call.Configure config) w c m h = process_sound (queued (Work.Configure config) c) _ refl (omega (counting, h.0), h.1)
   sent_sound (Call.Decode chunk) w c m h = process_sound (queued (Work.Coded (Coded.Chunk chunk)) c) _ refl (omega (counting, h.0), h.1)
-  sent_sound (Call.Encode (Handed.Cloned sound)) w c m h = process_sound (queued (Work.Coded (Coded.Sound sound)) c) _ refl (omega (counting, h.0), h.1)
+  sent_sound (Call.Encode (Handed.Cloned medium)) w c m h = process_sound (queued (Work.Coded (Coded.Medium medium)) c) _ refl (omega (counting, h.0), h.1)
   sent_sound Call.Flush w c m h = process_sound (queued Work.Flush c) _ refl (elim (same_or_apart c.place p) [ inl here ↦ omega (counting, h.0, here) | inr apart ↦ omega (counting, h.0, apart) ], h.1)
   sent_sound x w c m h = absurd cc
 

@@ -43,7 +43,7 @@ sent_held w c d k = rw k.is (queued_held c.place w (asked c k.phase k.key_requir
 
 -- a call that is refused adds no reference
 refused_adds : (who : Who) (x : Call) (error : DomError) (c : Control) → call_error x c ≡ Some error → adds_held (Entry.Call who x) ≡ []
-refused_adds who (Call.Encode (Handed.Cloned sound)) error c e = absurd cc
+refused_adds who (Call.Encode (Handed.Cloned medium)) error c e = absurd cc
 refused_adds who x error c e = refl
 
 -- a message holds what its call adds
@@ -55,7 +55,7 @@ message_adds who x w m = ap (λ (v : Work). in_order (held_of v)) (sym (some_sam
     is_there (Some v) w h = h
 
     by : (x : Call) (w : Work) → message_of x ≡ Some w → in_order (held_of (unwrap_or (message_of x) w)) ≡ adds_held (Entry.Call who x)
-    by (Call.Encode (Handed.Cloned sound)) w m = refl
+    by (Call.Encode (Handed.Cloned medium)) w m = refl
     by (Call.Configure config) w m = refl
     by (Call.Decode chunk) w m = refl
     by Call.Flush w m = refl

@@ -15,7 +15,7 @@ use Rattle.codec_model.specs.declared.entry.Opening.{Opening}
 use Rattle.codec_model.specs.declared.entry.CodecState.{CodecState}
 use Rattle.codec_model.specs.declared.entry.CodecState.TheVariants.{Unconfigured, Configured, Closed}
 use Rattle.codec_model.specs.declared.entry.Pair.{Pair}
-use Rattle.codec_model.specs.declared.entry.HeldSound.{HeldSound}
+use Rattle.codec_model.specs.declared.entry.HeldMedium.{HeldMedium}
 use Rattle.codec_model.specs.declared.entry.Coded.TheVariants as coded
 use Rattle.codec_model.specs.declared.entry.Work.{Work}
 use Rattle.codec_model.specs.declared.entry.Work.TheVariants as work
@@ -79,7 +79,7 @@ kind_of work.Flush = kind.Flush
 abbrev pub held_of : Work → Option Pair
 held_of (work.Configure config) = None
 held_of (work.Coded (coded.Chunk chunk)) = None
-held_of (work.Coded (coded.Sound sound)) = Some sound.pair
+held_of (work.Coded (coded.Medium medium)) = Some medium.pair
 held_of work.Flush = None
 
 -- the coded items of this epoch that are queued or running
@@ -134,6 +134,7 @@ abbrev pub is_decoder : Kind → Bool
 is_decoder kinds.AudioDecoder = true
 is_decoder kinds.AudioEncoder = false
 is_decoder kinds.VideoDecoder = true
+is_decoder kinds.VideoEncoder = false
 
 -- bytes of video that say that they are added to the picture before them (our choice: those that begin with 1)
 abbrev pub adds_to_picture : List ℕ → Bool
@@ -146,6 +147,7 @@ abbrev pub is_key_chunk : Kind → Chunk → Bool
 is_key_chunk kinds.AudioDecoder chunk = chunk.key
 is_key_chunk kinds.AudioEncoder chunk = chunk.key
 is_key_chunk kinds.VideoDecoder chunk = chunk.key && not (adds_to_picture chunk.bytes)
+is_key_chunk kinds.VideoEncoder chunk = chunk.key
 
 -- A call that was not refused queues its message and processes.
 abbrev pub with_message : ℕ → Work → Control → Control
@@ -157,8 +159,8 @@ after_configure place config s = with_message place (work.Configure config) (rec
 abbrev pub after_decode : ℕ → Chunk → Control → Control
 after_decode place chunk s = with_message place (work.Coded (coded.Chunk chunk)) (record s { key_required = false; size = s.size + 1 })
 
-abbrev pub after_encode : ℕ → HeldSound → Control → Control
-after_encode place sound s = with_message place (work.Coded (coded.Sound sound)) (record s { size = s.size + 1 })
+abbrev pub after_encode : ℕ → HeldMedium → Control → Control
+after_encode place medium s = with_message place (work.Coded (coded.Medium medium)) (record s { size = s.size + 1 })
 
 abbrev pub after_flush : ℕ → Control → Control
 after_flush place s = with_message place work.Flush (record s { key_required = is_decoder s.opening.kind || s.key_required; pending = s.pending ++ place ∷ [] })

@@ -65,7 +65,7 @@ leaves_held e s = if is_done e then waiting_held s.control else (if is_removal e
 
 -- an encode that is accepted adds the reference of its clone
 abbrev pub adds_held : Entry → List Pair
-adds_held (entry.Call who (call.Encode (handed.Cloned sound))) = sound.pair ∷ []
+adds_held (entry.Call who (call.Encode (handed.Cloned medium))) = medium.pair ∷ []
 adds_held _ = []
 
 -- after each entry a codec holds what the entry leaves, and what it adds

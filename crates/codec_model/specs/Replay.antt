@@ -17,6 +17,8 @@ use Rattle.coder_api.specs.Meaning.{Configured as Serving, new_state, serves, se
 use Rattle.codec_model.specs.declared.entry.Opening.{Opening}
 use Rattle.codec_model.specs.declared.entry.CodecState.TheVariants.{Unconfigured, Configured, Closed}
 use Rattle.codec_model.specs.declared.entry.Pair.{Pair}
+use Rattle.codec_model.specs.declared.entry.MediaShape.{MediaShape}
+use Rattle.codec_model.specs.declared.entry.MediaShape.TheVariants as medium_shape
 use Rattle.codec_model.specs.declared.entry.Handed.{Handed}
 use Rattle.codec_model.specs.declared.entry.Handed.TheVariants as handed
 use Rattle.codec_model.specs.declared.entry.Coded.{Coded}
@@ -47,10 +49,15 @@ pub record Given : Type 0 where
 abbrev pub nothing_given : Given
 nothing_given = record { config = Bad; commands = [] }
 
+-- the input that a medium is to a coder
+abbrev pub medium_command : MediaShape → List ℕ → Command
+medium_command (medium_shape.Sound shape) bytes = command.Sound (record { shape = shape; bytes = bytes })
+medium_command (medium_shape.Image shape) bytes = command.Image (record { shape = shape; bytes = bytes })
+
 -- what a coder is asked with an input
 abbrev pub command_of : Coded → Command
 command_of (coded.Chunk chunk) = command.Chunk chunk
-command_of (coded.Sound sound) = command.Sound sound.samples
+command_of (coded.Medium medium) = medium_command medium.shape medium.bytes
 
 abbrev pub given_more : Work → Given → Given
 given_more (work.Configure config) g = record { config = config; commands = [] }
@@ -160,24 +167,25 @@ removal_error c = elim (c.phase) [ Unconfigured ↦ None | Configured ↦ None |
 abbrev pub is_configured : Control → Bool
 is_configured c = elim (c.phase) [ Unconfigured ↦ false | Configured ↦ true | Closed ↦ false ]
 
--- The error with which an encode is refused: of detached data first (W3C WebCodecs, 3.6 'Methods' of AudioEncoder).
+-- The error with which an encode is refused: of a detached medium first (W3C WebCodecs, 'Methods' of AudioEncoder and
+-- VideoEncoder, encode).
 abbrev pub encode_error : Bool → Control → Option DomError
 encode_error detached c = if detached then Some dom.TypeErr else (if is_configured c then None else Some dom.InvalidState)
 
--- what became of an encode's data tells its error, if it has one
+-- what became of an encode's medium tells its error, if it has one
 abbrev pub handed_error : Handed → Option DomError
 handed_error handed.Gone = Some dom.TypeErr
 handed_error handed.Kept = Some dom.InvalidState
-handed_error (handed.Cloned sound) = None
+handed_error (handed.Cloned medium) = None
 
--- what became of the data of an encode that is refused, which was detached or not
+-- what became of the medium of an encode that is refused, which was detached or not
 abbrev pub refused_as : Bool → Handed
 refused_as detached = if detached then handed.Gone else handed.Kept
 
 abbrev pub is_cloned : Handed → Bool
 is_cloned handed.Gone = false
 is_cloned handed.Kept = false
-is_cloned (handed.Cloned sound) = true
+is_cloned (handed.Cloned medium) = true
 
 -- what a call asks for by its message, where it is not refused; the others send none
 abbrev pub message_of : Call → Option Work
@@ -185,7 +193,7 @@ message_of (call.Configure config) = Some (work.Configure config)
 message_of (call.Decode chunk) = Some (work.Coded (coded.Chunk chunk))
 message_of (call.Encode handed.Gone) = None
 message_of (call.Encode handed.Kept) = None
-message_of (call.Encode (handed.Cloned sound)) = Some (work.Coded (coded.Sound sound))
+message_of (call.Encode (handed.Cloned medium)) = Some (work.Coded (coded.Medium medium))
 message_of call.Flush = Some work.Flush
 message_of call.Reset = None
 message_of call.Close = None
@@ -204,13 +212,13 @@ call_error call.Reset c = removal_error c
 call_error call.Close c = removal_error c
 call_error (call.Take unit) c = None
 
--- of data that is not detached, the codec makes a clone exactly where it is configured
+-- of a medium that is not detached, the codec makes a clone exactly where it is configured
 abbrev pub may_hand : Handed → Control → Bool
 may_hand handed.Gone c = true
 may_hand handed.Kept c = not (is_configured c)
-may_hand (handed.Cloned sound) c = is_configured c
+may_hand (handed.Cloned medium) c = is_configured c
 
--- whether this call can be made: an encode is told what becomes of its data, and a take which output is the next
+-- whether this call can be made: an encode is told what becomes of its medium, and a take which output is the next
 abbrev pub may_call : Call → Control → Bool
 may_call (call.Encode handed) c = may_hand handed c
 may_call (call.Take unit) c = may_take unit c
@@ -219,7 +227,7 @@ may_call _ c = true
 abbrev pub after_handed : Handed → Control → Control
 after_handed handed.Gone c = at_next_place c
 after_handed handed.Kept c = at_next_place c
-after_handed (handed.Cloned sound) c = after_encode c.place sound (at_next_place c)
+after_handed (handed.Cloned medium) c = after_encode c.place medium (at_next_place c)
 
 -- a call that is not refused
 abbrev pub accepted : Call → Control → Control

@@ -77,7 +77,7 @@ closed_refuses (call.Configure config) c some may closed = rw closed (by (is_val
     by true = refl
     by false = refl
 closed_refuses (call.Decode chunk) c some may closed = rw closed refl
-closed_refuses (call.Encode (handed.Cloned sound)) c some may closed = absurd (let none = rw closed at may in cc)
+closed_refuses (call.Encode (handed.Cloned medium)) c some may closed = absurd (let none = rw closed at may in cc)
 closed_refuses call.Flush c some may closed = rw closed refl
 closed_refuses x c some may closed = absurd cc
 
@@ -128,7 +128,7 @@ call_sends x w c m = subst (λ (v : Work). Sends v c (accepted x c)) (by x w m).
     by : (x : Call) (w : Work) → message_of x ≡ Some w → Sends (unwrap_or (message_of x) w) c (accepted x c) × (unwrap_or (message_of x) w ≡ w)
     by (call.Configure config) w m = (record { phase = Configured; key_required = is_decoder c.opening.kind || c.key_required; size = c.size; pending = c.pending; few = omega arith; is = refl }, some_same _ w m)
     by (call.Decode chunk) w m = (record { phase = c.phase; key_required = false; size = c.size + 1; pending = c.pending; few = omega arith; is = refl }, some_same _ w m)
-    by (call.Encode (handed.Cloned sound)) w m = (record { phase = c.phase; key_required = c.key_required; size = c.size + 1; pending = c.pending; few = omega arith; is = refl }, some_same _ w m)
+    by (call.Encode (handed.Cloned medium)) w m = (record { phase = c.phase; key_required = c.key_required; size = c.size + 1; pending = c.pending; few = omega arith; is = refl }, some_same _ w m)
     by call.Flush w m = (record { phase = c.phase; key_required = is_decoder c.opening.kind || c.key_required; size = c.size; pending = c.pending ++ c.place ∷ []; few = omega arith; is = refl }, some_same _ w m)
     by x w m = absurd cc
 
@@ -280,7 +280,7 @@ module _ (P : Entry → State → State → Type 0) (each : EachStep P) where
   call_each who x s may (Some error) e = each.refused who x error s may e
   call_each who (call.Configure config) s may None e = each.sent who (call.Configure config) _ s refl may e
   call_each who (call.Decode chunk) s may None e = each.sent who (call.Decode chunk) _ s refl may e
-  call_each who (call.Encode (handed.Cloned sound)) s may None e = each.sent who (call.Encode (handed.Cloned sound)) _ s refl may e
+  call_each who (call.Encode (handed.Cloned medium)) s may None e = each.sent who (call.Encode (handed.Cloned medium)) _ s refl may e
   call_each who (call.Encode handed.Gone) s may None e = absurd cc
   call_each who (call.Encode handed.Kept) s may None e = absurd cc
   call_each who call.Flush s may None e = each.sent who call.Flush _ s refl may e

@@ -5,8 +5,8 @@ ghost use Rattle.codec_model.specs.Control as control;
 ghost use Rattle.codec_model.specs.Replay.{config_asked, is_cloned, refused_as, removes, sends};
 ghost use Rattle.codec_model.specs.Shown.{exception_of, promise_of, refused_shows, shown_of};
 
-use crate::entry::{Call, Coded, Handed, HeldSound, Opening, Pair, Showing, Work, WorkKind};
-use wc_base::{DomError, NoMemory, Samples};
+use crate::entry::{Call, Coded, Handed, HeldMedium, Opening, Pair, Showing, Work, WorkKind};
+use wc_base::{DomError, NoMemory};
 use wc_chunk::Chunk;
 use wc_config::{Config, Kind};
 
@@ -18,6 +18,7 @@ pub fn is_decoder(kind: Kind) -> bool
         Kind::AudioDecoder => true,
         Kind::AudioEncoder => false,
         Kind::VideoDecoder => true,
+        Kind::VideoEncoder => false,
     }
 }
 
@@ -38,6 +39,7 @@ pub fn is_key_chunk(kind: Kind, chunk: &Chunk) -> bool
         Kind::AudioDecoder => chunk.key,
         Kind::AudioEncoder => chunk.key,
         Kind::VideoDecoder => chunk.key && !adds_to_picture(&chunk.bytes),
+        Kind::VideoEncoder => chunk.key,
     }
 }
 
@@ -88,7 +90,7 @@ impl Work {
         ensures { result ≡ held_of self.now }
     {
         match self {
-            Work::Coded(Coded::Sound(sound)) => Some(sound.pair),
+            Work::Coded(Coded::Medium(medium)) => Some(medium.pair),
             Work::Coded(Coded::Chunk(_)) => None,
             Work::Configure(_) => None,
             Work::Flush => None,
@@ -96,24 +98,22 @@ impl Work {
     }
 }
 
-impl HeldSound {
-    /// The same samples again, over the same shared bytes, with the numbers of their reference.
-    pub fn copy(&self) -> Result<HeldSound, NoMemory>
-        ensures { IfOk result (λ s. s ≡ self.now) }
+impl HeldMedium {
+    /// The same medium again, over the same shared bytes, with the numbers of its reference.
+    pub fn copy(&self) -> Result<HeldMedium, NoMemory>
+        ensures { IfOk result (λ m. m ≡ self.now) }
     {
-        let bytes = self.samples.bytes.clone()?;
-        Ok(HeldSound {
-            samples: Samples {
-                shape: self.samples.shape,
-                bytes,
-            },
+        let bytes = self.bytes.clone()?;
+        Ok(HeldMedium {
+            shape: self.shape,
+            bytes,
             pair: self.pair,
         })
     }
 }
 
 impl Handed {
-    /// What became of data that an encode is refused, which was detached or not.
+    /// What became of a medium that an encode is refused, which was detached or not.
     pub fn of_refused(detached: bool) -> Handed
         ensures { result ≡ refused_as detached }
     {
@@ -128,7 +128,7 @@ impl Handed {
         match self {
             Handed::Gone => Ok(Handed::Gone),
             Handed::Kept => Ok(Handed::Kept),
-            Handed::Cloned(sound) => Ok(Handed::Cloned(sound.copy()?)),
+            Handed::Cloned(medium) => Ok(Handed::Cloned(medium.copy()?)),
         }
     }
 }

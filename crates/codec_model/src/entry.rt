@@ -1,6 +1,7 @@
 // The entries of a codec's history, and what its queues hold.
+use bytes::Bytes;
 use coder_api::Unit;
-use wc_base::{DomError, List, Samples, Who};
+use wc_base::{DomError, List, PictureShape, SoundShape, Who};
 use wc_chunk::Chunk;
 use wc_config::{Config, Kind};
 
@@ -31,14 +32,29 @@ pub struct Pair {
     pub reference: u64,
 }
 
-/// Samples that a codec was given, with the reference that it holds to them.
+/// What a medium is: samples, or a picture.
+#[derive(Clone, Copy, Debug, PartialEq, Eq)]
+pub enum MediaShape {
+    Sound(SoundShape),
+    Image(PictureShape),
+}
+
+/// A medium, with as many bytes as its shape needs, and no reference to it.
 #[derive(Debug, PartialEq, Drop)]
-pub struct HeldSound {
-    pub samples: Samples,
+pub struct Content {
+    pub shape: MediaShape,
+    pub bytes: Bytes,
+}
+
+/// A medium that a codec was given, with as many bytes as its shape needs, and the reference that the codec holds to it.
+#[derive(Debug, PartialEq, Drop)]
+pub struct HeldMedium {
+    pub shape: MediaShape,
+    pub bytes: Bytes,
     pub pair: Pair,
 }
 
-/// What became of the data of an `encode`.
+/// What became of the medium of an `encode`.
 #[derive(Debug, PartialEq, Drop)]
 pub enum Handed {
     /// It was detached.
@@ -46,7 +62,7 @@ pub enum Handed {
     /// The codec was not configured, and made no clone.
     Kept,
     /// The codec made a clone of it.
-    Cloned(HeldSound),
+    Cloned(HeldMedium),
 }
 
 /// What a caller asks of a codec.
@@ -100,11 +116,11 @@ pub enum CodecState {
     Closed,
 }
 
-/// An input of a coder: a chunk that is decoded, or samples that are encoded.
+/// An input of a coder: a chunk that is decoded, or a medium that is encoded.
 #[derive(Debug, PartialEq, Drop)]
 pub enum Coded {
     Chunk(Chunk),
-    Sound(HeldSound),
+    Medium(HeldMedium),
 }
 
 /// What a control message or a work item asks for.

@@ -9,9 +9,9 @@ mod showing;
 
 pub use calls::{is_decoder, is_key_chunk};
 pub use entry::{
-    Answer, Call, CodecState, Coded, Ended, Entry, Event, Handed, HeldSound, Item, Message,
-    Opening, Outcome, Pair, PromiseEnd, PromiseState, Running, Showing, Shown, Task, TurnWord,
-    Work, WorkKind,
+    Answer, Call, CodecState, Coded, Content, Ended, Entry, Event, Handed, HeldMedium, Item,
+    MediaShape, Message, Opening, Outcome, Pair, PromiseEnd, PromiseState, Running, Showing, Shown,
+    Task, TurnWord, Work, WorkKind,
 };
 pub use facts::{never_stuck, references_are_held, steps_leave_fewer};
 pub use showing::shown_list;

@@ -563,9 +563,9 @@ impl Machine {
                 let chunk = chunk.copy()?;
                 self.send(Work::Coded(Coded::Chunk(chunk)), phase, false)
             }
-            Call::Encode(Handed::Cloned(sound)) => {
-                let sound = sound.copy()?;
-                self.send(Work::Coded(Coded::Sound(sound)), phase, self.key_required)
+            Call::Encode(Handed::Cloned(medium)) => {
+                let medium = medium.copy()?;
+                self.send(Work::Coded(Coded::Medium(medium)), phase, self.key_required)
             }
             Call::Flush => self.send(Work::Flush, phase, key_required),
             Call::Encode(Handed::Gone) => unreachable!(),

@@ -8,14 +8,14 @@ ghost use Rattle.codec_core.specs.Owning.{IsOwnJob};
 use bytes::Bytes;
 use codec_core::{Core, Job};
 use codec_drive::run;
-use codec_model::{Call, Handed, HeldSound, Kind, Pair};
+use codec_model::{Call, Handed, HeldMedium, Kind, MediaShape, Pair};
 use coder_api::{Coder, SlotBox, Unit};
 use sample_coder::{Coding, SampleCoder};
 use sample_conversion::SampleSize;
 use std::alloc::Global;
 use std::process::Abort;
 use std::test::Fail;
-use wc_base::{By, DomError, SampleFormat, Samples, SoundShape, Text, Who};
+use wc_base::{By, DomError, SampleFormat, SoundShape, Text, Who};
 use wc_config::{AudioEncoderConfig, Config, Role};
 
 const WHO: Who = Who { caller: 0, step: 0 };
@@ -32,18 +32,16 @@ fn pcm(alloc: Global) -> Result<Config, Fail> {
 }
 
 // One frame of 16 bits, held by a reference of this number.
-fn sound(alloc: Global, reference: u64, content: &[u8]) -> Result<HeldSound, Fail> {
-    Ok(HeldSound {
-        samples: Samples {
-            shape: SoundShape {
-                format: SampleFormat::S16,
-                rate: 8000,
-                channels: 1,
-                frames: 1,
-                timestamp: 0,
-            },
-            bytes: Bytes::copy_from_slice(alloc, content)?,
-        },
+fn sound(alloc: Global, reference: u64, content: &[u8]) -> Result<HeldMedium, Fail> {
+    Ok(HeldMedium {
+        shape: MediaShape::Sound(SoundShape {
+            format: SampleFormat::S16,
+            rate: 8000,
+            channels: 1,
+            frames: 1,
+            timestamp: 0,
+        }),
+        bytes: Bytes::copy_from_slice(alloc, content)?,
         pair: Pair {
             resource: 0,
             reference,
@@ -92,7 +90,7 @@ fn work(alloc: Global, core: &mut Core<SampleCoder>, moment: u64) -> bool {
 }
 
 // The place of an encode that is not refused; none of one that is, or that wanted memory.
-fn encode(core: &mut Core<SampleCoder>, sound: HeldSound) -> Option<u64> {
+fn encode(core: &mut Core<SampleCoder>, sound: HeldMedium) -> Option<u64> {
     match core.encode_refusal(false) {
         Some(_) => None,
         None => {

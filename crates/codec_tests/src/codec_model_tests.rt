@@ -1,8 +1,8 @@
 use bytes::Bytes;
-use codec_model::{Call, Handed, HeldSound, Pair};
+use codec_model::{Call, Handed, HeldMedium, MediaShape, Pair};
 use std::alloc::Global;
 use std::test::Fail;
-use wc_base::{SampleFormat, Samples, SoundShape, Text};
+use wc_base::{SampleFormat, SoundShape, Text};
 use wc_chunk::Chunk;
 use wc_config::{AudioDecoderConfig, Config};
 
@@ -24,18 +24,16 @@ fn chunk(alloc: Global) -> Result<Chunk, Fail> {
     })
 }
 
-fn sound(alloc: Global) -> Result<HeldSound, Fail> {
-    Ok(HeldSound {
-        samples: Samples {
-            shape: SoundShape {
-                format: SampleFormat::S16,
-                rate: 8000,
-                channels: 1,
-                frames: 2,
-                timestamp: 5,
-            },
-            bytes: Bytes::copy_from_slice(alloc, &[1, 0, 2, 0])?,
-        },
+fn sound(alloc: Global) -> Result<HeldMedium, Fail> {
+    Ok(HeldMedium {
+        shape: MediaShape::Sound(SoundShape {
+            format: SampleFormat::S16,
+            rate: 8000,
+            channels: 1,
+            frames: 2,
+            timestamp: 5,
+        }),
+        bytes: Bytes::copy_from_slice(alloc, &[1, 0, 2, 0])?,
         pair: Pair {
             resource: 3,
             reference: 4,

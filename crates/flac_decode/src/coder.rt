@@ -130,6 +130,7 @@ fn setting_of(config: &Config) -> Result<Setting, NoMemory>
         }
         Config::AudioEncoder(_) => unreachable!(),
         Config::VideoDecoder(_) => unreachable!(),
+        Config::VideoEncoder(_) => unreachable!(),
         Config::Bad => unreachable!(),
     }
 }

@@ -127,6 +127,7 @@ fn setting_of(alloc: Global, config: &Config) -> Result<Setting, NoMemory>
         Config::AudioEncoder(c) => Ok(Setting::Encoder(encoder_of(alloc, c)?)),
         Config::AudioDecoder(_) => unreachable!(),
         Config::VideoDecoder(_) => unreachable!(),
+        Config::VideoEncoder(_) => unreachable!(),
         Config::Bad => unreachable!(),
     }
 }

@@ -29,7 +29,7 @@ use Rattle.codec_model.specs.declared.entry.Outcome.{Outcome}
 use Rattle.codec_model.specs.Control.{Control, process_queue, at_next_place, run_task, done_running, after_end, is_dequeue, is_desaturate, with_desaturate, after_reset, after_close, after_take, carried, is_active}
 use Rattle.codec_model.specs.Replay.{State, Given, command_of, decoder_config, labelled, given_more, answer_to, opening_state, nothing_given, step, ended_of, accepted, removes, removed, with_control}
 use Rattle.codec_model.specs.Shown.{outputs_from, turn_shows, shows, event_units, units_in, each_shown, each_shown_from}
-use Rattle.history_laws.specs.Outputs.{IsOwnCommand, IsOwnWork, MayCarry, Judge, HoldsOwn, own_call}
+use Rattle.history_laws.specs.Outputs.{IsOwnWork, MayCarry, Judge, HoldsOwn, own_call}
 use Rattle.history_laws.specs.Answers.{ran_answer, answer_where}
 use Rattle.codec_model.specs.StepLaws.{given_past, begun, task_ran, EachStep, by_items, by_removals, by_work, by_steps, Sends, asked, call_sends, closing_units, turn_units, units_by_turns}
 
@@ -46,7 +46,7 @@ abbrev pub AllOf : Judge → List media.Unit → Type 0
 AllOf k us = AllByRecursion k.output us
 
 abbrev pub IsOwn : Judge → Command → Type 0
-IsOwn k x = IsOwnCommand k.chunk k.sound x
+IsOwn k x = k.input x
 
 -- the config and the inputs that a coder was given are such
 abbrev pub IsOwnGiven : Judge → Given → Type 0
@@ -74,7 +74,7 @@ given_of k w g us own h =
 -- ---- states
 
 abbrev pub HoldsWork : Judge → Work → Type 0
-HoldsWork k w = IsOwnWork k.config k.chunk k.sound w
+HoldsWork k w = IsOwnWork k.config k.input w
 
 abbrev pub IsOwnTask : Judge → Task → Type 0
 IsOwnTask k (task.Output units) = AllOf k units
@@ -174,7 +174,7 @@ removal_own k x s is own = by_removals (λ y. Own k (removed (accepted y s.contr
 more_own : (k : Judge) (w : Work) (g : Given) → HoldsWork k w → IsOwnGiven k g → IsOwnGiven k (given_more w g)
 more_own k w g own h =
     by_work (λ x. HoldsWork k x → IsOwnGiven k (given_more x g)) (λ config fine. (fine, tt)) (λ input fine. (h.0, all_more (IsOwn k) g.commands (command_of input) h.1 fine))
-    (λ fine. (h.0, all_more (IsOwn k) g.commands command.Drain h.1 tt)) w own
+    (λ fine. (h.0, all_more (IsOwn k) g.commands command.Drain h.1 k.drained)) w own
 
 begun_own : (k : Judge) (i : Item) (is : List Item) (s : State) → s.control.work ≡ i ∷ is → Own k s → Own k (begun (i ∷ is) i s)
 begun_own k i is s first h =
@@ -252,7 +252,7 @@ entry_own k s h = with_own k _ s (entered_own k s.control h.control) h
 each_own : (k : Judge) → EachStep (λ e s t. HoldsOwn k e → Own k s → Own k t)
 each_own k = record {
   refused = λ who x error s may e own h. entry_own k s h;
-  sent = λ who x w s m may e own h. with_own k _ s (sent_own k w s.control _ (call_sends x w s.control m) (own_call k.config k.chunk k.sound who x w s.control own m e) h.control) h;
+  sent = λ who x w s m may e own h. with_own k _ s (sent_own k w s.control _ (call_sends x w s.control m) (own_call k.config k.input who x w s.control own m e) h.control) h;
   removes_all = λ who x s is e own h. removal_own k x s is h;
   takes = λ who unit s may own h. with_own k _ s (same_own k s.control (after_take (at_next_place s.control)) refl refl refl h.control) h;
   start = λ i is epoch item s first may own h. begun_own k i is s first h;

@@ -6,7 +6,6 @@ use Rattle.wc_base.specs.Options.{some_same}
 use Rattle.std.specs.List.{AllByRecursion}
 use Rattle.wc_base.specs.declared.error.DomError.{DomError}
 use Rattle.wc_base.specs.declared.error.DomError.TheVariants as dom
-use Rattle.wc_base.specs.declared.media.Samples.{Samples}
 use Rattle.wc_base.specs.declared.who.Who.{Who}
 use Rattle.wc_config.specs.declared.codec.CoderId.{CoderId}
 use Rattle.wc_config.specs.declared.config.Config.{Config}
@@ -29,14 +28,7 @@ use Rattle.codec_model.specs.declared.entry.Call.TheVariants as call
 use Rattle.codec_model.specs.declared.entry.Work.{Work}
 use Rattle.codec_model.specs.declared.entry.Work.TheVariants as work
 use Rattle.codec_model.specs.Control.{Control}
-use Rattle.codec_model.specs.Replay.{command_of, decoder_config, call_error, message_of}
-
--- a command whose chunk or samples, if it has them, pass; a codec is given no pictures yet
-abbrev pub IsOwnCommand : (Chunk → Type 0) → (Samples → Type 0) → Command → Type 0
-IsOwnCommand chunk sound (command.Chunk c) = chunk c
-IsOwnCommand chunk sound (command.Sound s) = sound s
-IsOwnCommand chunk sound command.Drain = Unit {0}
-IsOwnCommand chunk sound x = ⊥
+use Rattle.codec_model.specs.Replay.{command_of, medium_command, decoder_config, call_error, message_of}
 
 -- the decoder's config of a config that passes and has a coder
 pub record IsLabel (passes : Config → Type 0) (d : AudioDecoderConfig) : Type 0 where
@@ -52,41 +44,41 @@ MayCarry passes (Some d) = IsLabel passes d
 
 pub record Judge : Type 1 where
   pub config : Config → Type 0
-  pub chunk : Chunk → Type 0
-  pub sound : Samples → Type 0
+  pub input : Command → Type 0
   pub output : media.Unit → Type 0
   pub nothing : config Bad
-  pub gives : (id : CoderId) (c : Config) (before : List Command) (x : Command) (us : List media.Unit) → config c → IsOwnCommand chunk sound x → answer_after id c before x ≡ Some us → AllByRecursion output us
+  pub drained : input command.Drain
+  pub gives : (id : CoderId) (c : Config) (before : List Command) (x : Command) (us : List media.Unit) → config c → input x → answer_after id c before x ≡ Some us → AllByRecursion output us
   -- an encoded output passes with each config that it can carry
   pub relabel : (c : Chunk) (old new : Option AudioDecoderConfig) → MayCarry config new → output (unit.Coded c old) → output (unit.Coded c new)
 
 -- what a message or an item asks for passes
-abbrev pub IsOwnWork : (Config → Type 0) → (Chunk → Type 0) → (Samples → Type 0) → Work → Type 0
-IsOwnWork config chunk sound (work.Configure c) = config c
-IsOwnWork config chunk sound (work.Coded input) = IsOwnCommand chunk sound (command_of input)
-IsOwnWork config chunk sound work.Flush = Unit {0}
+abbrev pub IsOwnWork : (Config → Type 0) → (Command → Type 0) → Work → Type 0
+IsOwnWork config input (work.Configure c) = config c
+IsOwnWork config input (work.Coded x) = input (command_of x)
+IsOwnWork config input work.Flush = Unit {0}
 
 -- the config or input of an entry passes, where it has one; a config that is not valid is not looked at
-abbrev pub IsOwnEntry : (Config → Type 0) → (Chunk → Type 0) → (Samples → Type 0) → Entry → Type 0
-IsOwnEntry config chunk sound (entry.Call who (call.Configure c)) = is_valid c ≡ true → config c
-IsOwnEntry config chunk sound (entry.Call who (call.Decode c)) = chunk c
-IsOwnEntry config chunk sound (entry.Call who (call.Encode (handed.Cloned x))) = sound x.samples
-IsOwnEntry config chunk sound e = Unit {0}
+abbrev pub IsOwnEntry : (Config → Type 0) → (Command → Type 0) → Entry → Type 0
+IsOwnEntry config input (entry.Call who (call.Configure c)) = is_valid c ≡ true → config c
+IsOwnEntry config input (entry.Call who (call.Decode c)) = input (command.Chunk c)
+IsOwnEntry config input (entry.Call who (call.Encode (handed.Cloned x))) = input (medium_command x.shape x.bytes)
+IsOwnEntry config input e = Unit {0}
 
 abbrev pub HoldsOwn : Judge → Entry → Type 0
-HoldsOwn k e = IsOwnEntry k.config k.chunk k.sound e
+HoldsOwn k e = IsOwnEntry k.config k.input e
 
-module _ (config : Config → Type 0) (chunk : Chunk → Type 0) (sound : Samples → Type 0) where
+module _ (config : Config → Type 0) (input : Command → Type 0) where
   -- where all pass, all entries do
-  pub all_own : ((c : Config) → config c) → ((c : Chunk) → chunk c) → ((x : Samples) → sound x) → (e : Entry) → IsOwnEntry config chunk sound e
-  all_own configs chunks sounds (entry.Call who (call.Configure c)) = λ valid. configs c
-  all_own configs chunks sounds (entry.Call who (call.Decode c)) = chunks c
-  all_own configs chunks sounds (entry.Call who (call.Encode (handed.Cloned x))) = sounds x.samples
-  all_own configs chunks sounds e = tt
+  pub all_own : ((c : Config) → config c) → ((x : Command) → input x) → (e : Entry) → IsOwnEntry config input e
+  all_own configs inputs (entry.Call who (call.Configure c)) = λ valid. configs c
+  all_own configs inputs (entry.Call who (call.Decode c)) = inputs (command.Chunk c)
+  all_own configs inputs (entry.Call who (call.Encode (handed.Cloned x))) = inputs (medium_command x.shape x.bytes)
+  all_own configs inputs e = tt
 
   -- what a call that is not refused asks for passes where its entry does
-  pub own_call : (who : Who) (x : Call) (w : Work) (c : Control) → IsOwnEntry config chunk sound (entry.Call who x) → message_of x ≡ Some w → call_error x c ≡ None → IsOwnWork config chunk sound w
-  own_call who x w c own m taken = subst (λ (v : Work). IsOwnWork config chunk sound v) (some_same (unwrap_or (message_of x) w) w (is_there (message_of x) m)) (by x m own taken)
+  pub own_call : (who : Who) (x : Call) (w : Work) (c : Control) → IsOwnEntry config input (entry.Call who x) → message_of x ≡ Some w → call_error x c ≡ None → IsOwnWork config input w
+  own_call who x w c own m taken = subst (λ (v : Work). IsOwnWork config input v) (some_same (unwrap_or (message_of x) w) w (is_there (message_of x) m)) (by x m own taken)
     where
       is_there : (o : Option Work) → o ≡ Some w → Some (unwrap_or o w) ≡ Some w
       is_there None h = absurd cc
@@ -96,7 +88,7 @@ module _ (config : Config → Type 0) (chunk : Chunk → Type 0) (sound : Sample
       accepted_valid true o h = refl
       accepted_valid false o h = absurd cc
 
-      by : (x : Call) → message_of x ≡ Some w → IsOwnEntry config chunk sound (entry.Call who x) → call_error x c ≡ None → IsOwnWork config chunk sound (unwrap_or (message_of x) w)
+      by : (x : Call) → message_of x ≡ Some w → IsOwnEntry config input (entry.Call who x) → call_error x c ≡ None → IsOwnWork config input (unwrap_or (message_of x) w)
       by (call.Configure given) m own taken = own (accepted_valid (is_valid given) _ taken)
       by (call.Decode given) m own taken = own
       by (call.Encode (handed.Cloned given)) m own taken = own

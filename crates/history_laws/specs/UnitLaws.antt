@@ -11,6 +11,7 @@ use Rattle.wc_config.specs.declared.codec.CodecId.TheVariants as codec
 use Rattle.wc_config.specs.declared.config.AudioDecoderConfig.{AudioDecoderConfig}
 use Rattle.wc_config.specs.declared.config.AudioEncoderConfig.{AudioEncoderConfig}
 use Rattle.wc_config.specs.declared.config.VideoDecoderConfig.{VideoDecoderConfig}
+use Rattle.wc_config.specs.declared.config.VideoEncoderConfig.{VideoEncoderConfig}
 use Rattle.wc_config.specs.declared.config.Config.{Config}
 use Rattle.wc_config.specs.declared.config.Config.TheVariants as config
 use Rattle.wc_config.specs.declared.stream_info.StreamInfo.{StreamInfo}
@@ -26,6 +27,7 @@ use Rattle.codec_definitions.specs.SampleCodecs.{SampleCodec, sample_codec, deco
 use Rattle.codec_definitions.specs.Flac.{described, flac_sound, unit_of_frame, flac_decoder}
 use Rattle.codec_definitions.specs.FlacEncoder.{blocks_answer}
 use Rattle.codec_definitions.specs.RawVideo.{raw_shape, chunks_since_drain, last_picture, is_whole_chunk, picture_unit, raw_decoder}
+use Rattle.codec_definitions.specs.RawVideoEncoder.{coded_shape, is_picture_taken, picture_chunk, pictures_since_drain, raw_encoder}
 use Rattle.codec_definitions.specs.Answers.{undefined_answer, sample_decoder_by, sample_encoder_by, audio_decoder_answer, audio_encoder_answer, answer_after}
 
 -- the samples of a chunk, of a codec that codes each sample by itself
@@ -52,6 +54,7 @@ pub record EachAnswer (Q : Config → List Command → Command → List media.Un
   pub chunk : (id : CodecId) (s : SampleCodec) (c : AudioEncoderConfig) (before : List Command) (samples : Samples) → sample_codec id ≡ Some s → Q (config.AudioEncoder c) before (command.Sound samples) (unit.Coded (coded_chunk s samples) None ∷ [])
   pub blocks : (c : AudioEncoderConfig) (before : List Command) (x : Command) (us : List media.Unit) → blocks_answer c before x ≡ Some us → Q (config.AudioEncoder c) before x us
   pub picture : (id : CodecId) (c : VideoDecoderConfig) (shape : PictureShape) (before : List Command) (chunk : Chunk) (bytes : List ℕ) → raw_shape id c ≡ Some shape → last_picture (picture_size shape) (chunks_since_drain before ++ chunk.bytes ∷ []) ≡ Some bytes → Q (config.VideoDecoder c) before (command.Chunk chunk) (unit.Image (picture_given shape chunk bytes) ∷ [])
+  pub coded : (id : CodecId) (c : VideoEncoderConfig) (shape : PictureShape) (before : List Command) (picture : Picture) → coded_shape id c ≡ Some shape → is_picture_taken shape picture ≡ true → Q (config.VideoEncoder c) before (command.Image picture) (picture_chunk c.key_interval (pictures_since_drain before) picture ∷ [])
 
 module _ (Q : Config → List Command → Command → List media.Unit → Type 0) (each : EachAnswer Q) where
   none_given : (c : Config) (before : List Command) (x : Command) (us : List media.Unit) → ◌≡◌ {A = Option (List media.Unit)} (Some []) (Some us) → Q c before x us
@@ -107,6 +110,16 @@ module _ (Q : Config → List Command → Command → List media.Unit → Type 0
   raw_given o id c before (command.Sound samples) us is h = absurd cc
   raw_given o id c before (command.Image picture) us is h = absurd cc
 
+  coded_given : (o : Option PictureShape) (id : CodecId) (c : VideoEncoderConfig) (before : List Command) (x : Command) (us : List media.Unit) → coded_shape id c ≡ o → raw_encoder o c.key_interval before x ≡ Some us → Q (config.VideoEncoder c) before x us
+  coded_given None id c before (command.Image picture) us is h = absurd cc
+  coded_given (Some shape) id c before (command.Image picture) us is h =
+      let chunk : media.Unit = picture_chunk c.key_interval (pictures_since_drain before) picture in
+      let k = cond_is (is_picture_taken shape picture) (Some (chunk ∷ [])) us h in
+      subst (Q (config.VideoEncoder c) before (command.Image picture)) (some_same (chunk ∷ []) us k.1) (each.coded id c shape before picture is k.0)
+  coded_given o id c before command.Drain us is h = none_given (config.VideoEncoder c) before command.Drain us h
+  coded_given o id c before (command.Chunk chunk) us is h = absurd cc
+  coded_given o id c before (command.Sound samples) us is h = absurd cc
+
   decoder_given : (id : CodecId) (c : AudioDecoderConfig) (before : List Command) (x : Command) (us : List media.Unit) → audio_decoder_answer id c x ≡ Some us → Q (config.AudioDecoder c) before x us
   decoder_given codec.Flac c before x us h = flac_given (described c.description) c before x us refl h
   decoder_given id c before x us h = decoded_by (sample_codec id) id c before x us refl h
@@ -120,4 +133,5 @@ module _ (Q : Config → List Command → Command → List media.Unit → Type 0
   by_answers id (config.AudioDecoder c) before x us h = decoder_given id.codec c before x us h
   by_answers id (config.AudioEncoder c) before x us h = encoder_given id.codec c before x us h
   by_answers id (config.VideoDecoder c) before x us h = raw_given (raw_shape id.codec c) id.codec c before x us refl h
+  by_answers id (config.VideoEncoder c) before x us h = coded_given (coded_shape id.codec c) id.codec c before x us refl h
   by_answers id config.Bad before x us h = undefined_given config.Bad before x us h

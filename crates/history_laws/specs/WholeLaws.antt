@@ -190,15 +190,16 @@ each_whole = record {
   chunk = λ id s c before samples is. (tt, tt);
   blocks = λ c before x us h. blocks_where IsWholeUnit c (λ number values place few. tt) us (answers_blocks c before x us h);
   picture = λ id c shape before chunk bytes is last. (length-picture (picture_size shape) (chunks_since_drain before ++ chunk.bytes ∷ []) bytes last, tt);
+  coded = λ id c shape before picture is taken. (tt, tt);
 }
 
 abbrev whole : Judge
 whole = record {
   config = λ config. Unit {0};
-  chunk = λ chunk. Unit {0};
-  sound = λ samples. Unit {0};
+  input = λ x. Unit {0};
   output = IsWholeUnit;
   nothing = tt;
+  drained = tt;
   gives = λ id c before x us own input h. by_answers (λ d b y vs. AllWhole vs) each_whole id c before x us h;
   relabel = λ chunk old new may h. tt;
 }
@@ -207,7 +208,7 @@ whole = record {
 
 entries_own : (h : List Entry) → AllByRecursion (HoldsOwn whole) h
 entries_own [] = tt
-entries_own (e ∷ es) = (all_own whole.config whole.chunk whole.sound (λ config. tt) (λ chunk. tt) (λ samples. tt) e, entries_own es)
+entries_own (e ∷ es) = (all_own whole.config whole.input (λ config. tt) (λ x. tt) e, entries_own es)
 
 -- every output that a history shows is whole
 pub outputs_are_whole : (o : Opening) (h : List Entry) → AllByRecursion IsWholeUnit (outputs_of (shown o h))

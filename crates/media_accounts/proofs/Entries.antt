@@ -65,7 +65,7 @@ part_apart pool callers held part w h = record {
 
 grows_by : (cause : By) (pool : List PoolEntry) (callers : List (List (Option Medium))) (e : Entry) (s : State) → ((f r : ℕ) → resource_of f pool ≡ Some r → f < references_made pool)
     → ((i : ℕ) (p : Pair) → slice_get (adds_held e) i ≡ Some p → MayAdd pool p) → AreApart pool callers (lets_go e s) → Grows cause pool (pool_by cause e s pool) (lets_go e s) (adds_held e)
-grows_by cause pool callers (Entry.Call who (Call.Encode (Handed.Cloned sound))) s numbered may ends = clone_grows cause pool sound.pair (may 0 sound.pair refl) numbered
+grows_by cause pool callers (Entry.Call who (Call.Encode (Handed.Cloned medium))) s numbered may ends = clone_grows cause pool medium.pair (may 0 medium.pair refl) numbered
 grows_by cause pool callers e s numbered may ends = ends_grow cause pool callers (lets_go e s) ends
 
 -- ---- all of it

@@ -5,4 +5,4 @@ pub mod Lent
 pub mod Ends
 pub mod Entries
 pub mod Standing
-pub mod SampleLaws
+pub mod ContentLaws

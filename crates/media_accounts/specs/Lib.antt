@@ -1,2 +1,2 @@
 pub mod Accounts
-pub mod Samples
+pub mod Contents

@@ -2,14 +2,15 @@
 ghost use Rattle.std.specs.Prelude.{◌≡◌, length, IfOk};
 
 use crate::media_variables_tests::{
-    Act, SOUND, Wanted, cloned, comes_to, end, entry, make, opened, plain, shared,
+    Act, PICTURE, SOUND, Wanted, cloned, comes_to, end, entry, make, opened, plain, shared,
 };
 use codec_definitions::Unit;
-use media_variables::{CallerMedia, SoundFound};
+use codec_model::{HeldMedium, MediaShape, Pair};
+use media_variables::{CallerMedia, MediumFound};
 use report_text::StepResult;
 use std::alloc::Global;
 use std::test::Fail;
-use wc_base::{By, DomError, SampleFormat, Samples, SoundShape, Who};
+use wc_base::{By, DomError, PictureFormat, PictureShape, SampleFormat, SoundShape, Who};
 use wc_chunk::Chunk;
 use wc_pool::{MediaRef, PoolEntry, PoolOp};
 
@@ -30,37 +31,55 @@ fn codec_entry(place: u64, op: PoolOp) -> PoolEntry {
     }
 }
 
-/// What a variable with the sound of a step lends.
-fn is_sound(samples: &Samples, r: &MediaRef) -> bool {
-    let shape = SoundShape {
-        format: SampleFormat::S16,
-        rate: 48000,
-        channels: 2,
-        frames: 2,
-        timestamp: 0,
+/// The shape of the sound of a step.
+const SOUND_SHAPE: MediaShape = MediaShape::Sound(SoundShape {
+    format: SampleFormat::S16,
+    rate: 48000,
+    channels: 2,
+    frames: 2,
+    timestamp: 0,
+});
+
+/// The shape of the picture of a step.
+const PICTURE_SHAPE: MediaShape = MediaShape::Image(PictureShape {
+    format: PictureFormat::I420,
+    width: 3,
+    height: 3,
+    timestamp: 0,
+    duration: None,
+});
+
+/// Whether a variable lent this, by the first resource.
+fn is_medium(medium: &HeldMedium, r: &MediaRef, shape: MediaShape, content: &[u8]) -> bool {
+    let pair = Pair {
+        resource: r.resource(),
+        reference: r.number(),
     };
-    samples.shape == shape
-        && samples.bytes.as_slice() == SOUND
+    medium.shape == shape
+        && medium.bytes.as_slice() == content
+        && medium.pair == pair
         && r.resource() == 0
-        && r.bytes().as_slice() == SOUND
+        && r.bytes().as_slice() == content
 }
 
-/// Lends the sound of the first variable, and ends the reference, alone or among others; tells whether
-/// that was the sound.
+/// Lends the medium of the first variable, and ends the reference, alone or among others; tells whether
+/// that was this.
 fn is_lent(
     alloc: Global,
     media: &mut CallerMedia,
     lent: u64,
     ended: u64,
     alone: bool,
+    shape: MediaShape,
+    content: &[u8],
 ) -> Result<bool, Fail>
     requires { length media.old.variables ≡ 2 }
     ensures { IfOk result (λ b. length media.new.variables ≡ 2) }
 {
-    match media.find_sound(0, 0) {
-        SoundFound::Open => {
-            let (samples, r) = media.lend(codec(lent), 0, 0)?;
-            let right = is_sound(&samples, &r);
+    match media.find_medium(0, 0) {
+        MediumFound::Open => {
+            let (medium, r) = media.lend(codec(lent), 0, 0)?;
+            let right = is_medium(&medium, &r, shape, content);
             if alone {
                 media.end_one(codec(ended), Some(r));
             } else {
@@ -68,8 +87,8 @@ fn is_lent(
             }
             Ok(right)
         }
-        SoundFound::Detached => Ok(false),
-        SoundFound::Absent => Ok(false),
+        MediumFound::Detached => Ok(false),
+        MediumFound::Absent => Ok(false),
     }
 }
 
@@ -79,14 +98,14 @@ fn open_audio_data_is_lent(rt: HostRuntime) -> Result<(), Fail> {
     let mut media = opened(alloc)?;
     let audio = Act::Audio(Some(SOUND));
     assert!(rt; comes_to(alloc, &mut media, first(0), audio, Wanted::Done)?);
-    assert!(rt; is_lent(alloc, &mut media, 0, 1, true)?);
-    assert!(rt; is_lent(alloc, &mut media, 2, 3, false)?);
+    assert!(rt; is_lent(alloc, &mut media, 0, 1, true, SOUND_SHAPE, SOUND)?);
+    assert!(rt; is_lent(alloc, &mut media, 2, 3, false, SOUND_SHAPE, SOUND)?);
     assert_eq!(rt; media.held(), 1);
     assert!(rt; comes_to(alloc, &mut media, first(1), Act::CloseData(0), Wanted::Done)?);
-    assert_eq!(rt; media.find_sound(0, 0), SoundFound::Detached);
-    assert_eq!(rt; media.find_sound(0, 1), SoundFound::Absent);
-    assert_eq!(rt; media.find_sound(1, 0), SoundFound::Absent);
-    assert_eq!(rt; media.find_sound(2, 0), SoundFound::Absent);
+    assert_eq!(rt; media.find_medium(0, 0), MediumFound::Detached);
+    assert_eq!(rt; media.find_medium(0, 1), MediumFound::Absent);
+    assert_eq!(rt; media.find_medium(1, 0), MediumFound::Absent);
+    assert_eq!(rt; media.find_medium(2, 0), MediumFound::Absent);
     media.end_one(codec(4), None);
     media.end_all(codec(5), Vec::new(alloc));
     assert_eq!(rt; media.held(), 0);
@@ -100,6 +119,19 @@ fn open_audio_data_is_lent(rt: HostRuntime) -> Result<(), Fail> {
     ];
     let made = media.into_entries();
     assert!(rt; made.as_slice() == wanted.as_slice());
+    Ok(())
+}
+
+#[test]
+fn an_open_frame_is_lent(rt: HostRuntime) -> Result<(), Fail> {
+    let alloc = rt.alloc();
+    let mut media = opened(alloc)?;
+    let frame = Act::Frame(Some(PICTURE));
+    assert!(rt; comes_to(alloc, &mut media, first(0), frame, Wanted::Done)?);
+    assert!(rt; is_lent(alloc, &mut media, 0, 1, true, PICTURE_SHAPE, PICTURE)?);
+    assert!(rt; comes_to(alloc, &mut media, first(1), Act::CloseData(0), Wanted::Done)?);
+    assert_eq!(rt; media.find_medium(0, 0), MediumFound::Detached);
+    assert_eq!(rt; media.held(), 0);
     Ok(())
 }
 
@@ -197,7 +229,7 @@ fn a_chunk_that_was_taken_stays(rt: HostRuntime) -> Result<(), Fail> {
     assert!(rt; holds(alloc, &media, 0, 0, Some(&[1, 2]))?);
     assert!(rt; holds(alloc, &media, 0, 9, None)?);
     assert!(rt; holds(alloc, &media, 1, 0, None)?);
-    assert_eq!(rt; media.find_sound(0, 0), SoundFound::Absent);
+    assert_eq!(rt; media.find_medium(0, 0), MediumFound::Absent);
     let made = media.into_entries();
     assert!(rt; made.as_slice().is_empty());
     Ok(())

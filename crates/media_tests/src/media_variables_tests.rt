@@ -55,7 +55,7 @@ pub(crate) enum Wanted {
 
 pub(crate) const SOUND: &[u8] = &[1, 0, 2, 0, 3, 0, 4, 0];
 
-const PICTURE: &[u8] = &[0, 1, 2, 3, 4, 5, 6, 7, 8, 9, 10, 11, 12, 13, 14, 15, 16];
+pub(crate) const PICTURE: &[u8] = &[0, 1, 2, 3, 4, 5, 6, 7, 8, 9, 10, 11, 12, 13, 14, 15, 16];
 
 pub(crate) fn shared(alloc: Global, content: &[u8]) -> Result<Bytes, Fail> {
     Ok(Bytes::from_vec(Vec::from_slice(alloc, content)?)?)

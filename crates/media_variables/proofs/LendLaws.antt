@@ -4,17 +4,16 @@ use Rattle.std.specs.Prelude.{slice_get, slice_set}
 use Rattle.std.proofs.lemmas.Bool.{eqb-true, false_from_ne_true}
 use Rattle.wc_base.specs.declared.who.By.{By}
 use Rattle.wc_base.specs.declared.error.NoMemory.{NoMemory}
-use Rattle.wc_base.specs.declared.media.Samples.{Samples}
 use Rattle.codec_model.specs.declared.entry.Pair.{Pair}
+use Rattle.codec_model.specs.declared.entry.HeldMedium.{HeldMedium}
 use Rattle.wc_pool.specs.declared.entry.PoolEntry.{PoolEntry}
 use Rattle.wc_pool.specs.declared.entry.PoolOp.TheVariants as op
 use Rattle.wc_pool.specs.declared.reference.MediaRef.{MediaRef}
 use Rattle.wc_pool.specs.Bag.{resource_of, references_made, is_legal_pool}
 use Rattle.wc_pool.specs.Laws.{LiveAreNumbered}
-use Rattle.wc_audio.specs.Sound.{Sound}
-use Rattle.media_variables.specs.declared.lending.SoundFound.TheVariants as found
-use Rattle.media_variables.specs.Variables.{Medium, variables_of, sound_at, is_last_of}
-use Rattle.media_variables.specs.Held.{pair_of, sound_found, ends_behind, AreHeld, AreApart, IsLent}
+use Rattle.media_variables.specs.declared.lending.MediumFound.TheVariants as found
+use Rattle.media_variables.specs.Variables.{Medium, Lendable, variables_of, lendable_at, is_last_of}
+use Rattle.media_variables.specs.Held.{pair_of, medium_found, ends_behind, AreHeld, AreApart, IsLent}
 use Rattle.media_variables.proofs.Ends.{resource_more}
 use Rattle.media_variables.proofs.HeldLaws.{Mints, carried, minted_live, minted_held, fresh}
 use Rattle.media_variables.proofs.Places.{variables_back, variables_past}
@@ -71,15 +70,15 @@ none_left (r ∷ rs) e = absurd (omega (arith, e))
 abbrev lent_entry : By → MediaRef → PoolEntry
 lent_entry cause r = record { by = cause; op = op.Clone r.resource r.number }
 
-lent_mints : (pool new : List PoolEntry) (cause : By) (sound : Option Sound) (x : Samples × MediaRef) → IsLent cause pool new sound x → Mints (lent_entry cause x.1) x.1.resource (references_made pool)
-lent_mints pool new cause sound x h =
+lent_mints : (pool new : List PoolEntry) (cause : By) (medium : Option Lendable) (x : HeldMedium × MediaRef) → IsLent cause pool new medium x → Mints (lent_entry cause x.1) x.1.resource (references_made pool)
+lent_mints pool new cause medium x h =
     let own : Mints (lent_entry cause x.1) x.1.resource x.1.number = λ g held. refl in
     subst (λ (f : ℕ). Mints (lent_entry cause x.1) x.1.resource f) h.next own
 
 -- what was lent leaves the variables as they were
-lent_new : LiveAreNumbered → (pool new : List PoolEntry) (all : List (List (Option Medium))) (cause : By) (sound : Option Sound) (x : Samples × MediaRef) → is_legal_pool pool ≡ true → AreHeld pool all → IsLent cause pool new sound x → AreHeld new all
-lent_new numbered pool new all cause sound x legal held h =
-    let mints = lent_mints pool new cause sound x h in
+lent_new : LiveAreNumbered → (pool new : List PoolEntry) (all : List (List (Option Medium))) (cause : By) (medium : Option Lendable) (x : HeldMedium × MediaRef) → is_legal_pool pool ≡ true → AreHeld pool all → IsLent cause pool new medium x → AreHeld new all
+lent_new numbered pool new all cause medium x legal held h =
+    let mints = lent_mints pool new cause medium x h in
     subst (λ (l : List PoolEntry). AreHeld l all) (sym h.history) (minted_held numbered pool (lent_entry cause x.1) x.1.resource all legal mints held)
 
 only_one : (p q : Pair) (i : ℕ) → slice_get (p ∷ []) i ≡ Some q → (i ≡ 0) × (q ≡ p)
@@ -87,10 +86,10 @@ only_one p q zero h = (refl, cc)
 only_one p q (suc i) h = absurd cc
 
 -- no variable holds what was lent
-lent_alone : LiveAreNumbered → (pool new : List PoolEntry) (all : List (List (Option Medium))) (cause : By) (sound : Option Sound) (x : Samples × MediaRef) → is_legal_pool pool ≡ true → AreHeld pool all → IsLent cause pool new sound x → AreApart new all (pair_of x.1 ∷ [])
-lent_alone numbered pool new all cause sound x legal held h =
+lent_alone : LiveAreNumbered → (pool new : List PoolEntry) (all : List (List (Option Medium))) (cause : By) (medium : Option Lendable) (x : HeldMedium × MediaRef) → is_legal_pool pool ≡ true → AreHeld pool all → IsLent cause pool new medium x → AreApart new all (pair_of x.1 ∷ [])
+lent_alone numbered pool new all cause medium x legal held h =
     let p = pair_of x.1 in
-    let live = minted_live pool (lent_entry cause x.1) x.1.resource (references_made pool) (lent_mints pool new cause sound x h) in
+    let live = minted_live pool (lent_entry cause x.1) x.1.resource (references_made pool) (lent_mints pool new cause medium x h) in
     let here : resource_of x.1.number new ≡ Some x.1.resource = ap (λ (f : ℕ). resource_of f new) h.next ∙ ap (resource_of (references_made pool)) h.history ∙ live in
     let free = fresh numbered pool all legal held in
     record {
@@ -99,22 +98,22 @@ lent_alone numbered pool new all cause sound x legal held h =
       elsewhere = λ i k j q r at there same. free.none k j r there (sym same ∙ ap (λ (y : Pair). y.reference) (only_one p q i at).1 ∙ h.next);
     }
 
-pub lent_held : LiveAreNumbered → (pool new : List PoolEntry) (all : List (List (Option Medium))) (k : ℕ) (vs after : List (Option Medium)) (cause : By) (sound : Option Sound) (r : Result (Samples × MediaRef) NoMemory) → is_legal_pool pool ≡ true → AreHeld pool all → variables_of k all ≡ vs → after ≡ vs → IfOk r (IsLent cause pool new sound) → OnErr r (new ≡ pool) → AreHeld new (slice_set all k after)
-lent_held numbered pool new all k vs after cause sound r legal held is same ok err =
+pub lent_held : LiveAreNumbered → (pool new : List PoolEntry) (all : List (List (Option Medium))) (k : ℕ) (vs after : List (Option Medium)) (cause : By) (medium : Option Lendable) (r : Result (HeldMedium × MediaRef) NoMemory) → is_legal_pool pool ≡ true → AreHeld pool all → variables_of k all ≡ vs → after ≡ vs → IfOk r (IsLent cause pool new medium) → OnErr r (new ≡ pool) → AreHeld new (slice_set all k after)
+lent_held numbered pool new all k vs after cause medium r legal held is same ok err =
     let back = ap (slice_set all k) (same ∙ sym is) ∙ variables_back k all in
     subst (λ (l : List (List (Option Medium))). AreHeld new l) (sym back) (either r ok err)
   where
-    either : (r : Result (Samples × MediaRef) NoMemory) → IfOk r (IsLent cause pool new sound) → OnErr r (new ≡ pool) → AreHeld new all
-    either (Ok x) ok err = lent_new numbered pool new all cause sound x legal held ok
+    either : (r : Result (HeldMedium × MediaRef) NoMemory) → IfOk r (IsLent cause pool new medium) → OnErr r (new ≡ pool) → AreHeld new all
+    either (Ok x) ok err = lent_new numbered pool new all cause medium x legal held ok
     either (Err e) ok err = subst (λ (l : List PoolEntry). AreHeld l all) (sym err) held
 
-pub lent_apart : LiveAreNumbered → (pool new : List PoolEntry) (all : List (List (Option Medium))) (k : ℕ) (vs after : List (Option Medium)) (cause : By) (sound : Option Sound) (r : Result (Samples × MediaRef) NoMemory) → is_legal_pool pool ≡ true → AreHeld pool all → variables_of k all ≡ vs → after ≡ vs → IfOk r (IsLent cause pool new sound) → IfOk r (λ x. AreApart new (slice_set all k after) (pair_of x.1 ∷ []))
-lent_apart numbered pool new all k vs after cause sound (Ok x) legal held is same ok =
+pub lent_apart : LiveAreNumbered → (pool new : List PoolEntry) (all : List (List (Option Medium))) (k : ℕ) (vs after : List (Option Medium)) (cause : By) (medium : Option Lendable) (r : Result (HeldMedium × MediaRef) NoMemory) → is_legal_pool pool ≡ true → AreHeld pool all → variables_of k all ≡ vs → after ≡ vs → IfOk r (IsLent cause pool new medium) → IfOk r (λ x. AreApart new (slice_set all k after) (pair_of x.1 ∷ []))
+lent_apart numbered pool new all k vs after cause medium (Ok x) legal held is same ok =
     let back = ap (slice_set all k) (same ∙ sym is) ∙ variables_back k all in
-    subst (λ (l : List (List (Option Medium))). AreApart new l (pair_of x.1 ∷ [])) (sym back) (lent_alone numbered pool new all cause sound x legal held ok)
-lent_apart numbered pool new all k vs after cause sound (Err e) legal held is same ok = tt
+    subst (λ (l : List (List (Option Medium))). AreApart new l (pair_of x.1 ∷ [])) (sym back) (lent_alone numbered pool new all cause medium x legal held ok)
+lent_apart numbered pool new all k vs after cause medium (Err e) legal held is same ok = tt
 
 -- no caller with this number has open data
-pub none_open : (all : List (List (Option Medium))) (k of : ℕ) → length all ≤ k → sound_found (sound_at (variables_of k all) of) ≡ found.Open → ⊥
+pub none_open : (all : List (List (Option Medium))) (k of : ℕ) → length all ≤ k → medium_found (lendable_at (variables_of k all) of) ≡ found.Open → ⊥
 none_open all k of beyond there =
-    let none : found.Absent ≡ found.Open = sym (ap (λ (vs : List (Option Medium)). sound_found (sound_at vs of)) (variables_past k all beyond)) ∙ there in absurd cc
+    let none : found.Absent ≡ found.Open = sym (ap (λ (vs : List (Option Medium)). medium_found (lendable_at vs of)) (variables_past k all beyond)) ∙ there in absurd cc

@@ -2,13 +2,15 @@
 use Rattle.std.specs.Prelude.{ℕ, ◌≡◌, ◌≢◌, ◌<◌, ◌≤◌, true, List, [], ◌∷◌, ◌++◌, length, map, slice_get, slice_set, Option, Some, None, IfSome, option_map, option_and_then}
 use Rattle.wc_base.specs.declared.who.By.{By}
 use Rattle.wc_base.specs.declared.who.Who.{Who}
-use Rattle.wc_base.specs.declared.media.Samples.{Samples}
 use Rattle.codec_model.specs.declared.entry.Pair.{Pair}
+use Rattle.codec_model.specs.declared.entry.HeldMedium.{HeldMedium}
+use Rattle.codec_model.specs.declared.entry.MediaShape.TheVariants as media_shape
 use Rattle.codec_model.specs.declared.entry.Handed.TheVariants as handed
 use Rattle.codec_definitions.specs.declared.unit.Unit as output
 use Rattle.codec_definitions.specs.declared.unit.Unit.TheVariants as unit
 use Rattle.picture_planes.specs.Planes.{picture_size}
 use Rattle.wc_audio.specs.Sound.{Sound, needed}
+use Rattle.wc_video.specs.Frames.{Frame}
 use Rattle.wc_pool.specs.declared.entry.PoolEntry.{PoolEntry}
 use Rattle.wc_pool.specs.declared.entry.PoolOp.TheVariants as op
 use Rattle.wc_pool.specs.declared.reference.MediaRef.{MediaRef}
@@ -16,9 +18,9 @@ use Rattle.wc_pool.specs.Bag.{resource_of, references_made, is_held, is_legal_ne
 use Rattle.script_types.specs.declared.steps.MediaStep.{MediaStep}
 use Rattle.media_variables.specs.declared.medium.Kind.{Kind}
 use Rattle.media_variables.specs.declared.medium.Kind.TheVariants as kind
-use Rattle.media_variables.specs.declared.lending.SoundFound.{SoundFound}
-use Rattle.media_variables.specs.declared.lending.SoundFound.TheVariants as found
-use Rattle.media_variables.specs.Variables.{Reference, Medium, SoundOf, PictureOf, Came, Brought, chunk_medium, sound_in, handed_of, medium_at, variables_of, media_came, entries_of, is_last_of}
+use Rattle.media_variables.specs.declared.lending.MediumFound.{MediumFound}
+use Rattle.media_variables.specs.declared.lending.MediumFound.TheVariants as found
+use Rattle.media_variables.specs.Variables.{Reference, Medium, SoundOf, PictureOf, Came, Brought, Lendable, chunk_medium, lendable_in, handed_of, medium_at, variables_of, media_came, entries_of, is_last_of}
 
 -- without the key of a pool
 abbrev pub reference_of : MediaRef → Reference
@@ -78,21 +80,29 @@ clones_of cause ps = map (λ p. record { by = cause; op = op.Clone p.resource p.
 
 -- ---- what a codec is lent
 
-abbrev pub sound_of_variable : Option Medium → Option Sound
-sound_of_variable v = option_and_then sound_in v
+-- audio data and a frame, as an encode is given them
+abbrev pub lendable_sound : Sound → Lendable
+lendable_sound s = record { shape = media_shape.Sound s.shape; held = option_map reference_of s.held }
 
-abbrev pub found_by : Option MediaRef → SoundFound
+abbrev pub lendable_frame : Frame → Lendable
+lendable_frame f = record { shape = media_shape.Image f.shape; held = option_map reference_of f.held }
+
+abbrev pub lendable_of_variable : Option Medium → Option Lendable
+lendable_of_variable v = option_and_then lendable_in v
+
+abbrev pub found_by : Option Reference → MediumFound
 found_by None = found.Detached
 found_by (Some r) = found.Open
 
--- whether a variable holds audio data, and whether that is open
-abbrev pub sound_found : Option Sound → SoundFound
-sound_found None = found.Absent
-sound_found (Some s) = found_by s.held
+-- whether a variable holds audio data or a frame, and whether that is open
+abbrev pub medium_found : Option Lendable → MediumFound
+medium_found None = found.Absent
+medium_found (Some m) = found_by m.held
 
--- the samples of audio data with one reference more to their resource, which was held: what an encode that is accepted is handed
-pub record IsLent (cause : By) (pool new : List PoolEntry) (sound : Option Sound) (x : Samples × MediaRef) : Type 0 where
-  pub handed : IfSome sound (λ s. handed_of (references_made pool) true s ≡ handed.Cloned (record { samples = x.0; pair = pair_of x.1 }))
+-- An open medium, with one reference more to its resource, which was held: what an encode that is accepted is handed.
+pub record IsLent (cause : By) (pool new : List PoolEntry) (medium : Option Lendable) (x : HeldMedium × MediaRef) : Type 0 where
+  pub handed : IfSome medium (λ m. handed_of (references_made pool) true m ≡ handed.Cloned x.0)
+  pub pair : x.0.pair ≡ pair_of x.1
   pub history : new ≡ pool ++ clones_of cause (pair_of x.1 ∷ [])
   pub may : is_held x.1.resource pool ≡ true
   pub next : x.1.number ≡ references_made pool

@@ -10,6 +10,8 @@ use Rattle.wc_base.specs.declared.who.Who.{Who}
 use Rattle.wc_base.specs.declared.who.By.{By}
 use Rattle.wc_base.specs.declared.who.By.TheVariants as by
 use Rattle.wc_chunk.specs.declared.chunk.Chunk.{Chunk}
+use Rattle.codec_model.specs.declared.entry.MediaShape.{MediaShape}
+use Rattle.codec_model.specs.declared.entry.MediaShape.TheVariants as media_shape
 use Rattle.codec_model.specs.declared.entry.Handed.{Handed}
 use Rattle.codec_model.specs.declared.entry.Handed.TheVariants as handed
 use Rattle.codec_definitions.specs.declared.unit.Unit as output
@@ -291,23 +293,32 @@ taken_came pool j (Some t) vs = Some (unit_came pool j t.answer t.unit vs)
 
 -- ---- what an encode is given
 
-abbrev pub sound_in : Medium → Option Sound
-sound_in m = elim (m.shape) [ SoundOf shape ↦ Some (sound_of shape m.held) | PictureOf shape ↦ None | ChunkOf chunk ↦ None ]
+-- audio data or a frame: its shape, and the reference that it holds
+pub record Lendable : Type 0 where
+  pub shape : MediaShape
+  pub held : Option Reference
 
--- the audio data of the variable that the step with this number defines; none where it is absent
-abbrev pub sound_at : List (Option Medium) → ℕ → Option Sound
-sound_at vs j = option_and_then sound_in (medium_at vs j)
+abbrev pub lendable_in : Medium → Option Lendable
+lendable_in m = elim (m.shape) [
+  | SoundOf shape ↦ Some (record { shape = media_shape.Sound shape; held = m.held })
+  | PictureOf shape ↦ Some (record { shape = media_shape.Image shape; held = m.held })
+  | ChunkOf chunk ↦ None
+]
 
--- What an encode hands to its codec: nothing of data that is detached; else, where the codec accepts it, the samples, with
--- one reference more to their resource, of this number.
-abbrev pub handed_by : ℕ → Bool → SoundShape → Option MediaRef → Handed
+-- the audio data or frame of the variable that the step with this number defines; none where it is absent
+abbrev pub lendable_at : List (Option Medium) → ℕ → Option Lendable
+lendable_at vs j = option_and_then lendable_in (medium_at vs j)
+
+-- What an encode hands to its codec: nothing of a medium that is detached; else, where the codec accepts it, its shape and bytes,
+-- with one reference more to its resource, of this number.
+abbrev pub handed_by : ℕ → Bool → MediaShape → Option Reference → Handed
 handed_by number accepts shape None = handed.Gone
 handed_by number accepts shape (Some r) =
-    if accepts then handed.Cloned (record { samples = record { shape = shape; bytes = r.bytes }; pair = record { resource = r.resource; reference = number } })
+    if accepts then handed.Cloned (record { shape = shape; bytes = r.bytes; pair = record { resource = r.resource; reference = number } })
     else handed.Kept
 
-abbrev pub handed_of : ℕ → Bool → Sound → Handed
-handed_of number accepts s = handed_by number accepts s.shape s.held
+abbrev pub handed_of : ℕ → Bool → Lendable → Handed
+handed_of number accepts m = handed_by number accepts m.shape m.held
 
 -- ---- every step
 

@@ -3,24 +3,25 @@ ghost use Rattle.std.specs.Prelude.{◌≡◌, ◌<◌, ◌++◌, [], ◌∷◌,
 ghost use Rattle.std.specs.Prelude.{map, length, option_and_then};
 ghost use Rattle.codec_model.specs.Held.{in_order};
 ghost use Rattle.wc_pool.specs.Bag.{held_in, is_legal_pool};
-ghost use Rattle.media_variables.specs.declared.lending.SoundFound.TheVariants as found;
+ghost use Rattle.media_variables.specs.declared.lending.MediumFound.TheVariants as found;
 ghost use Rattle.media_variables.specs.Variables.{Brought, CameTo, IsCome, Media, Taken};
 ghost use Rattle.media_variables.specs.Variables.{media_came, taken_came, unit_came, variables_of};
-ghost use Rattle.media_variables.specs.Variables.{chunk_in_medium, medium_at, sound_at};
+ghost use Rattle.media_variables.specs.Variables.{chunk_in_medium, medium_at, lendable_at};
 ghost use Rattle.media_variables.specs.Held.{AreHeld, AreLive, AreApart, IsEnoughUnit, IsLent};
-ghost use Rattle.media_variables.specs.Held.{ends_behind, pair_of, sound_found};
+ghost use Rattle.media_variables.specs.Held.{ends_behind, pair_of, medium_found};
 ghost use Rattle.media_variables.specs.Given.{Comes, Reaches};
 
 use crate::ending::{end_each, end_if};
-use crate::lending::{SoundFound, lend_at};
+use crate::lending::{MediumFound, lend_at};
 use crate::medium::Medium;
-use crate::steps::{chunk_at, find_sound, media_step, take_step};
+use crate::steps::{chunk_at, find_medium, media_step, take_step};
 use codec_definitions::Unit;
+use codec_model::HeldMedium;
 use report_text::StepResult;
 use script_types::{CallerItem, MediaStep};
 use std::alloc::Global;
 use std::marker::Model;
-use wc_base::{By, NoMemory, Samples, Who};
+use wc_base::{By, NoMemory, Who};
 use wc_chunk::Chunk;
 use wc_pool::{MediaRef, Pool, PoolEntry, references_are_apart};
 
@@ -114,26 +115,26 @@ impl CallerMedia {
         }
     }
 
-    /// Whether a variable of a caller holds audio data, and whether that is open.
-    pub fn find_sound(&self, caller: u32, variable: u32) -> SoundFound
+    /// Whether a variable of a caller holds audio data or a frame, and whether that is open.
+    pub fn find_medium(&self, caller: u32, variable: u32) -> MediumFound
         ensures { let vs = variables_of caller self.now.variables in
-            result ≡ sound_found (sound_at vs variable) }
+            result ≡ medium_found (lendable_at vs variable) }
     {
-        find_sound(variables_of(self.callers.as_slice(), caller), variable)
+        find_medium(variables_of(self.callers.as_slice(), caller), variable)
     }
 
-    /// One more reference to the open audio data of a variable, for a codec, with its samples: what an
+    /// One more reference to the open medium of a variable, for a codec, with its shape and bytes: what an
     /// encode that is accepted is handed. The variable stays as it is.
     pub fn lend(
         &mut self,
         by: By,
         caller: u32,
         variable: u32,
-    ) -> Result<(Samples, MediaRef), NoMemory>
+    ) -> Result<(HeldMedium, MediaRef), NoMemory>
         requires { let vs = variables_of caller self.old.variables in
-            sound_found (sound_at vs variable) ≡ found.Open }
+            medium_found (lendable_at vs variable) ≡ found.Open }
         ensures lent { let vs = variables_of caller self.old.variables in
-            IfOk result (IsLent by self.old.pool self.new.pool (sound_at vs variable)) }
+            IfOk result (IsLent by self.old.pool self.new.pool (lendable_at vs variable)) }
         ensures same { self.new.variables ≡ self.old.variables }
         ensures apart { IfOk result
             (λ x. AreApart self.new.pool self.new.variables (pair_of x.1 ∷ [])) }
@@ -259,12 +260,12 @@ fn caller_lend(
     by: By,
     caller: u32,
     variable: u32,
-) -> Result<(Samples, MediaRef), NoMemory>
+) -> Result<(HeldMedium, MediaRef), NoMemory>
     requires open { let vs = variables_of caller callers.old.items in
-        sound_found (sound_at vs variable) ≡ found.Open }
+        medium_found (lendable_at vs variable) ≡ found.Open }
     requires held { AreHeld pool.old callers.old.items }
     ensures ok { let vs = variables_of caller callers.old.items in
-        IfOk result (IsLent by pool.old pool.new (sound_at vs variable)) }
+        IfOk result (IsLent by pool.old pool.new (lendable_at vs variable)) }
     ensures apart { IfOk result
         (λ x. AreApart pool.new callers.new.items (pair_of x.1 ∷ [])) }
     ensures same { callers.new.items ≡ callers.old.items }
@@ -316,17 +317,17 @@ impl Variables {
         take_step(pool, who, unit, answer, &mut self.media)
     }
 
-    /// One more reference to the open audio data of a variable, with its samples.
+    /// One more reference to the open medium of a variable, with its shape and bytes.
     fn lend(
         &mut self,
         pool: &mut Pool,
         by: By,
         variable: u32,
-    ) -> Result<(Samples, MediaRef), NoMemory>
-        requires open { sound_found (sound_at self.old variable) ≡ found.Open }
+    ) -> Result<(HeldMedium, MediaRef), NoMemory>
+        requires open { medium_found (lendable_at self.old variable) ≡ found.Open }
         requires live { AreLive pool.old self.old }
         ensures same { self.new ≡ self.old }
-        ensures ok { IfOk result (IsLent by pool.old pool.new (sound_at self.old variable)) }
+        ensures ok { IfOk result (IsLent by pool.old pool.new (lendable_at self.old variable)) }
         ensures err { OnErr result (pool.new ≡ pool.old) }
     {
         lend_at(&mut self.media, variable, pool, by)

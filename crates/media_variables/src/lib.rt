@@ -13,4 +13,4 @@ mod variables;
 
 pub use callers::CallerMedia;
 pub use laws::references_stay_held;
-pub use lending::SoundFound;
+pub use lending::MediumFound;

@@ -5,23 +5,24 @@ ghost use Rattle.wc_audio.specs.Sound.{IsHeldOf};
 ghost use Rattle.wc_video.specs.Frames as frames;
 ghost use Rattle.wc_pool.specs.Pools.{IsLive};
 ghost use Rattle.media_variables.specs.declared.medium.Kind.TheVariants as kind;
-ghost use Rattle.media_variables.specs.declared.lending.SoundFound.{SoundFound};
-ghost use Rattle.media_variables.specs.declared.lending.SoundFound.TheVariants as found;
-ghost use Rattle.media_variables.specs.Variables.{detached, chunk_in_medium, sound_in};
-ghost use Rattle.media_variables.specs.Held.{medium_of, sound_found, IsEnoughUnit, IsHeldIn, IsLent};
+ghost use Rattle.media_variables.specs.declared.lending.MediumFound.{MediumFound};
+ghost use Rattle.media_variables.specs.declared.lending.MediumFound.TheVariants as found;
+ghost use Rattle.media_variables.specs.Variables.{detached, chunk_in_medium, lendable_in};
+ghost use Rattle.media_variables.specs.Held.{medium_of, medium_found, IsEnoughUnit, IsHeldIn, IsLent};
 ghost use Rattle.media_variables.specs.Given.{Does, audio_done, frame_done, clone_done};
 ghost use Rattle.media_variables.specs.Given.{taken_done, transfer_done, closed_op};
 ghost use Rattle.media_variables.specs.Variables.{entries_of};
 
 use crate::given::{Given, gives, gives_nothing};
-use crate::lending::{SoundFound, find_in, lend_sound};
+use crate::lending::{MediumFound, find_frame, find_sound, lend_frame, lend_sound};
 use codec_definitions::Unit;
+use codec_model::HeldMedium;
 use report_text::StepResult;
 use script_types::{PictureInit, SoundInit};
 use std::alloc::Global;
 use std::marker::Model;
 use wc_audio::AudioData;
-use wc_base::{By, DomError, NoMemory, Samples, Who};
+use wc_base::{By, DomError, NoMemory, Who};
 use wc_chunk::Chunk;
 use wc_pool::{MediaFault, MediaRef, Pool};
 use wc_video::VideoFrame;
@@ -247,29 +248,33 @@ impl Medium {
         }
     }
 
-    /// One more reference to the resource of open audio data, for a codec, with its samples.
-    pub(crate) fn lend(&mut self, pool: &mut Pool, by: By) -> Result<(Samples, MediaRef), NoMemory>
-        requires open { sound_found (sound_in self.old) ≡ found.Open }
+    /// One more reference to the resource of an open medium, for a codec, with its shape and bytes.
+    pub(crate) fn lend(
+        &mut self,
+        pool: &mut Pool,
+        by: By,
+    ) -> Result<(HeldMedium, MediaRef), NoMemory>
+        requires open { medium_found (lendable_in self.old) ≡ found.Open }
         requires held { IsHeldIn pool.old self.old.held }
         ensures same { self.new ≡ self.old }
-        ensures ok { IfOk result (IsLent by pool.old pool.new (sound_in self.old)) }
+        ensures ok { IfOk result (IsLent by pool.old pool.new (lendable_in self.old)) }
         ensures err { OnErr result (pool.new ≡ pool.old) }
     {
         match &mut self.kind {
             Kind::Audio(audio) => lend_sound(audio, pool, by),
-            Kind::Frame(_) => unreachable!(),
+            Kind::Frame(frame) => lend_frame(frame, pool, by),
             Kind::Chunk(_) => unreachable!(),
         }
     }
 
-    /// Whether it is audio data, and whether that is open.
-    pub(crate) fn find_sound(&self) -> SoundFound
-        ensures { result ≡ sound_found (sound_in self.now) }
+    /// Whether it is audio data or a frame, and whether that is open.
+    pub(crate) fn find(&self) -> MediumFound
+        ensures { result ≡ medium_found (lendable_in self.now) }
     {
         match &self.kind {
-            Kind::Audio(audio) => find_in(audio),
-            Kind::Frame(_) => SoundFound::Absent,
-            Kind::Chunk(_) => SoundFound::Absent,
+            Kind::Audio(audio) => find_sound(audio),
+            Kind::Frame(frame) => find_frame(frame),
+            Kind::Chunk(_) => MediumFound::Absent,
         }
     }
 

@@ -6,14 +6,14 @@ ghost use Rattle.media_variables.specs.Variables.{media_came, unit_came};
 ghost use Rattle.media_variables.specs.Variables.{if_there, medium_at, clone_held, transfer_held};
 ghost use Rattle.media_variables.specs.Variables.{close_held, only_answers, copy_medium};
 ghost use Rattle.media_variables.specs.Variables.{size_of_medium, entries_of, detached};
-ghost use Rattle.media_variables.specs.Variables.{chunk_in_medium, chunk_of_variable, sound_at};
-ghost use Rattle.media_variables.specs.Held.{AreLive, IsEnoughUnit, IsHeldIn, held_by, sound_found};
+ghost use Rattle.media_variables.specs.Variables.{chunk_in_medium, chunk_of_variable, lendable_at};
+ghost use Rattle.media_variables.specs.Held.{AreLive, IsEnoughUnit, IsHeldIn, held_by, medium_found};
 ghost use Rattle.media_variables.specs.Given.{Comes, Does, Reaches, clone_done, transfer_done};
 ghost use Rattle.media_variables.specs.Given.{closed_answer, closed_op, without};
 
 use crate::copies::{copy_chunk, copy_medium, size_of_medium};
 use crate::given::{Given, absent, done};
-use crate::lending::SoundFound;
+use crate::lending::MediumFound;
 use crate::medium::{Medium, make_audio, make_frame, make_taken};
 use crate::variables::{keep, make_room};
 use codec_definitions::Unit;
@@ -272,13 +272,13 @@ fn chunk_for<'a>(
     }
 }
 
-/// Whether the variable of a step holds audio data, and whether that is open.
-pub(crate) fn find_sound(variables: &[Option<Medium>], of: u32) -> SoundFound
-    ensures { result ≡ sound_found (sound_at variables.now of) }
+/// Whether the variable of a step holds audio data or a frame, and whether that is open.
+pub(crate) fn find_medium(variables: &[Option<Medium>], of: u32) -> MediumFound
+    ensures { result ≡ medium_found (lendable_at variables.now of) }
 {
     match medium_at(variables, of) {
-        Some(medium) => medium.find_sound(),
-        None => SoundFound::Absent,
+        Some(medium) => medium.find(),
+        None => MediumFound::Absent,
     }
 }
 

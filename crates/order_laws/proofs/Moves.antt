@@ -6,10 +6,10 @@ use Rattle.std.specs.List.{sum_by}
 use Rattle.std.proofs.lemmas.Bool.{cases_eq, cases_lt, ne_eqb}
 use Rattle.std.proofs.lemmas.List.{map-append, length-map}
 use Rattle.std.proofs.lemmas.Option.{slice_get_past, slice_get_within, cond_some}
-use Rattle.wc_base.specs.{Options.some_same, declared.error.DomError.DomError, declared.who.Who.Who, declared.media.SoundShape.SoundShape}
-use Rattle.wc_pool.specs.{declared.entry.PoolEntry.PoolEntry, declared.reference.MediaRef.MediaRef, Laws.LiveAreNumbered}
+use Rattle.wc_base.specs.{Options.some_same, declared.error.DomError.DomError, declared.who.Who.Who}
+use Rattle.wc_pool.specs.{declared.entry.PoolEntry.PoolEntry, Laws.LiveAreNumbered}
 use Rattle.wc_pool.specs.Bag.{resource_of, is_number, is_live, references_made, references_of, count_below, is_held, is_legal_pool}
-use Rattle.wc_audio.specs.Sound.{Sound}
+use Rattle.codec_model.specs.declared.entry.MediaShape.{MediaShape}
 use Rattle.wc_config.specs.declared.codec.CoderId.{CoderId}
 use Rattle.slot_registry.specs.Slots.{SlotsValue}
 use Rattle.wc_chunk.specs.declared.chunk.Chunk.{Chunk}
@@ -31,7 +31,7 @@ use Rattle.script_types.specs.declared.{script.OrderItem.OrderItem, script.Scrip
 use Rattle.report_text.specs.declared.result.StepResult.{StepResult}
 use Rattle.trace_text.specs.Report.{refusal_in}
 use Rattle.media_variables.specs.Held.{held_by}
-use Rattle.media_variables.specs.Variables.{Reference, Shape, SoundOf, Medium, Media, Came, Brought, medium_at, media_ref, sound_of, sound_in, sound_at, handed_by, media_came, taken_came, unit_came, variables_of}
+use Rattle.media_variables.specs.Variables.{Reference, Shape, SoundOf, PictureOf, ChunkOf, Medium, Media, Came, Brought, Lendable, medium_at, lendable_in, lendable_at, handed_by, media_came, taken_came, unit_came, variables_of}
 use Rattle.media_accounts.specs.Accounts.{media_of, OneMore, IsQuiet, MediaStand, StepStands, NothingStands, StepsStand, OthersStand, LaterStand, LaterStands, EntryStands, EntriesStand}
 use Rattle.trace_text.specs.Follow.{Recorded, Course, record_of, opening_at, promise_after, steps_of, chunk_for, source_error, output_at, with_result, with_entry, Move, Answer, Ask, Handle, Receive, after_move, follow_item, handle_move, take_move, copied_chunk, outcome_for, end_of, turn_on, item_entry, advance, call_move, encode_of, result_of, look_of_state, step_move, next_move}
 use Rattle.trace_text.specs.Fits.{result_in, entry_in, step_in, exception_at, mark_of, marks_of, taken_by, brought_to, made_steps, came_at, variables_at, IsResultOf, LookShows, IsLocalAnswer, HasArguments, ArgumentsAreIn, MarksClimb}
@@ -225,21 +225,24 @@ only_one x zero p is = cc
 only_one x (suc i) p is = absurd cc
 
 -- what is handed over may be where it tells whether the codec is configured, and a clone adds a reference to what is held
-handed_may : (pool : List PoolEntry) (who : Who) (shape : SoundShape) (held : Option MediaRef) (c : Control) (b : Bool) → is_configured c ≡ b → ((r : MediaRef) → held ≡ Some r → is_held r.resource pool ≡ true)
+handed_may : (pool : List PoolEntry) (who : Who) (shape : MediaShape) (held : Option Reference) (c : Control) (b : Bool) → is_configured c ≡ b → ((r : Reference) → held ≡ Some r → is_held r.resource pool ≡ true)
     → let h = handed_by (references_made pool) b shape held in (may_hand h c ≡ true) × MayAddAll pool (Entry.Call who (Call.Encode h))
 handed_may pool who shape None c b is lives = (refl, λ i p at. absurd cc)
 handed_may pool who shape (Some r) c false is lives = (rw is refl, λ i p at. absurd cc)
 handed_may pool who shape (Some r) c true is lives = (is, λ i p at. rw (only_one (record { resource = r.resource; reference = references_made pool }) i p at) (lives r refl, refl))
 
--- the reference of audio data is that of its variable
-sound_held : (m : Option Medium) (x : Sound) (r : MediaRef) → option_and_then sound_in m ≡ Some x → x.held ≡ Some r → (q : Reference) × (held_by m ≡ Some q) × (q.resource ≡ r.resource)
-sound_held None x r is holds = absurd cc
-sound_held (Some m) x r is holds = by_shape m.shape m.held is
+-- the reference of what an encode is given is that of its variable
+lendable_held : (m : Option Medium) (x : Lendable) (r : Reference) → option_and_then lendable_in m ≡ Some x → x.held ≡ Some r → held_by m ≡ Some r
+lendable_held None x r is holds = absurd cc
+lendable_held (Some m) x r is holds = by_shape m.shape m.held is
   where
-    by_shape : (shape : Shape) (held : Option Reference) → sound_in (record { shape = shape; held = held }) ≡ Some x → (q : Reference) × (held ≡ Some q) × (q.resource ≡ r.resource)
-    by_shape (SoundOf shape) held is =
-        let found = mapped media_ref held r (ap (λ (s : Sound). s.held) (some_same (sound_of shape held) x is) ∙ holds) in (found.0, found.1, ap (λ (y : MediaRef). y.resource) found.2)
-    by_shape shape held is = absurd cc
+    same_held : (shape : MediaShape) (held : Option Reference) → ◌≡◌ {A = Option Lendable} (Some (record { shape = shape; held = held })) (Some x) → held ≡ Some r
+    same_held shape held is = (let y : Lendable = record { shape = shape; held = held } in ap (λ (z : Lendable). z.held) (some_same y x is) ∙ holds)
+
+    by_shape : (shape : Shape) (held : Option Reference) → lendable_in (record { shape = shape; held = held }) ≡ Some x → held ≡ Some r
+    by_shape (SoundOf shape) held is = same_held (MediaShape.Sound shape) held is
+    by_shape (PictureOf shape) held is = same_held (MediaShape.Image shape) held is
+    by_shape (ChunkOf chunk) held is = absurd cc
 
 abbrev one_if : Bool → ℕ
 one_if b = if b then 1 else 0
@@ -546,7 +549,7 @@ module _ (laws : MediaLaws) (s : ScriptData) (media : List (List Chunk)) (made :
         received_stands c k n _ bind holds after.0 u (caller_there x is) (omega (arith, sound.names c (length (at c v.callers)) k x is refl, st.codecs.count)) is after.1
         (rw (history_at k v.codecs, sym (st.codecs.opened k)) some) refl
 
-    encodes : (k : ℕ) (content : Variable) (o : Option Sound) → IsNext s v c (Step.Media (MediaStep.Encode k content)) → sound_at (variables_of c v.media.variables) content.step ≡ o → After (call_move (next_who v c) k (option_map (encode_of v.media.pool (codec_at k v.codecs)) o))
+    encodes : (k : ℕ) (content : Variable) (o : Option Lendable) → IsNext s v c (Step.Media (MediaStep.Encode k content)) → lendable_at (variables_of c v.media.variables) content.step ≡ o → After (call_move (next_who v c) k (option_map (encode_of v.media.pool (codec_at k v.codecs)) o))
     encodes k content None is none =
         answered (Step.Media (MediaStep.Encode k content)) StepResult.Absent is (local_marked v c StepResult.Absent refl) tt tt tt (λ o. none)
         (call_quiet s (brought_to s media (record_of (with_result c StepResult.Absent v))) c (length (at c v.callers)) k (Step.Media (MediaStep.Encode k content)) is refl)
@@ -555,10 +558,10 @@ module _ (laws : MediaLaws) (s : ScriptData) (media : List (List Chunk)) (made :
         let may = handed_may v.media.pool (next_who v c) x.shape x.held before (is_configured before) refl lives in
         asks k (Step.Media (MediaStep.Encode k content)) (encode_of v.media.pool (codec_at k v.codecs) x) is refl may.0 may.1 (x, references_made v.media.pool, is_configured before, some, refl)
       where
-        lives : (r : MediaRef) → x.held ≡ Some r → is_held r.resource v.media.pool ≡ true
+        lives : (r : Reference) → x.held ≡ Some r → is_held r.resource v.media.pool ≡ true
         lives r holds =
-            let found = sound_held (medium_at (variables_of c v.media.variables) content.step) x r some holds in
-            subst (λ (i : ℕ). is_held i v.media.pool ≡ true) found.2 (live_held laws.numbered v.media.pool found.0.number found.0.resource st.stand.accounted.legal (st.stand.held.live c content.step found.0 found.1))
+            live_held laws.numbered v.media.pool r.number r.resource st.stand.accounted.legal
+            (st.stand.held.live c content.step r (lendable_held (medium_at (variables_of c v.media.variables) content.step) x r some holds))
 
     steps : (x : Step) → IsNext s v c x → After (step_move s media (next_who v c) x v)
     steps (Step.Configure on config) is = asks on (Step.Configure on config) (Call.Configure config) is refl refl (λ i p at. absurd cc) refl
@@ -580,7 +583,7 @@ module _ (laws : MediaLaws) (s : ScriptData) (media : List (List Chunk)) (made :
         still (Step.State on) r is (look_marked v c on r refl) tt tt
         (refl, all_there (λ o h. (state_after o h).control.phase) s media made v on st, all_there (λ o h. (state_after o h).control.size) s media made v on st) (λ o. tt) refl
     steps (Step.Media (MediaStep.Take on bind kind)) is = takes on bind kind (output_at (codec_at on v.codecs).opening (codec_at on v.codecs).history (state_of (codec_at on v.codecs)).control.taken) is refl
-    steps (Step.Media (MediaStep.Encode on content)) is = encodes on content (sound_at (variables_of c v.media.variables) content.step) is refl
+    steps (Step.Media (MediaStep.Encode on content)) is = encodes on content (lendable_at (variables_of c v.media.variables) content.step) is refl
     steps (Step.Media x) is = handles x (media_came v.media.pool (next_who v c) (brought (copied_chunk media (steps_of s c) x) None) x (variables_of c v.media.variables)) is refl
 
     next : (o : Option Step) → step_in s c (length (at c v.callers)) ≡ o → After (next_move s media (next_who v c) o v)

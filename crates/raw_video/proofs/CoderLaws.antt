@@ -49,7 +49,7 @@ stands f d c before served at =
           (parts.1 ∙ (ap (λ (x : Config). state_after (id_of f) x before) (sym parts.0) ∙ ap (λ (o : Option PictureShape). raw_state o (chunks_since_drain before)) served));
     }
 
-chunks_more : (before : List Command) (x : Command) → chunks_since_drain (before ++ x ∷ []) ≡ with_command (chunks_since_drain before) x
+pub chunks_more : (before : List Command) (x : Command) → chunks_since_drain (before ++ x ∷ []) ≡ with_command (chunks_since_drain before) x
 chunks_more before x = fold-append with_command [] before (x ∷ [])
 
 whole_answer : (b : Bool) (shape : PictureShape) (chunk : Chunk) (o p : Option (List ℕ)) → (b ≡ true → o ≡ p) → cond (not b) None (picture_unit shape chunk o) ≡ picture_unit shape chunk (cond b p None)
@@ -62,7 +62,7 @@ same_answer f d chunk c before served small s =
     let chunks : List (List ℕ) = chunks_since_drain before in
     ap (λ (x : Config). answer_after (id_of f) x before (command.Chunk chunk)) (sym s.config)
     ∙ (ap (λ (o : Option PictureShape). raw_units o chunks chunk) served.0
-    ∙ (whole_answer (is_whole_chunk size chunk.bytes) d.shape chunk (last_picture size (chunks ++ chunk.bytes ∷ [])) (picture_after d.last chunk.bytes) (λ whole. last_more size chunks chunk.bytes small.each whole ∙ ap (λ (o : Option (List ℕ)). picture_after o chunk.bytes) (sym s.last))
+    ∙ (whole_answer (is_whole_chunk size chunk.bytes) d.shape chunk (last_picture size (chunks ++ chunk.bytes ∷ [])) (picture_after d.last chunk.bytes) (λ whole. last_more size chunks chunk.bytes (λ key. small.each) whole ∙ ap (λ (o : Option (List ℕ)). picture_after o chunk.bytes) (sym s.last))
     ∙ ap (λ (n : ℕ). picture_unit d.shape chunk (next_picture n d.last chunk.bytes)) (sym served.1)))
 
 some_whole : (b : Bool) (shape : PictureShape) (chunk : Chunk) (p : Option (List ℕ)) (units : List unit.Unit) → picture_unit shape chunk (cond b p None) ≡ Some units → b ≡ true
@@ -81,7 +81,7 @@ same_state f d chunk c before units served small s given =
     let whole : is_whole_chunk size chunk.bytes ≡ true = ap (λ (n : ℕ). is_whole_chunk n chunk.bytes) (sym served.1) ∙ whole_d in
     let picture : next_picture d.size d.last chunk.bytes ≡ last_picture size (chunks ++ chunk.bytes ∷ []) =
     whole_next (is_whole_chunk d.size chunk.bytes) (picture_after d.last chunk.bytes) whole_d
-    ∙ (ap (λ (o : Option (List ℕ)). picture_after o chunk.bytes) s.last ∙ sym (last_more size chunks chunk.bytes small.each whole)) in
+    ∙ (ap (λ (o : Option (List ℕ)). picture_after o chunk.bytes) s.last ∙ sym (last_more size chunks chunk.bytes (λ key. small.each) whole)) in
     let kept : picture_kept (next_picture d.size d.last chunk.bytes) ≡ state_after (id_of f) (config.VideoDecoder d.config) (before ++ command.Chunk chunk ∷ []) =
     ap picture_kept picture
     ∙ (sym (ap (λ (l : List (List ℕ)). raw_state (Some d.shape) l) (chunks_more before (command.Chunk chunk)))

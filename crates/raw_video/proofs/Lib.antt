@@ -1,2 +1,4 @@
+mod BackLaws
 mod CoderLaws
+mod EncoderLaws
 mod PictureLaws

@@ -1,5 +1,5 @@
 -- The last picture, after one chunk more.
-use Rattle.std.proofs.Common.{ℕ, ◌≡◌, ◌<◌, ◌+◌, ◌%◌, ◌==◌, Bool, true, false, cond, List, [], ◌∷◌, ◌++◌, length, drop, map, get_or, refl, ap, sym, ◌∙◌, arith}
+use Rattle.std.proofs.Common.{ℕ, ◌≡◌, ◌<◌, ◌+◌, ◌-◌, ◌%◌, ◌==◌, Bool, true, false, cond, List, [], ◌∷◌, ◌++◌, length, drop, map, get_or, refl, ap, sym, ◌∙◌, arith}
 use Rattle.std.specs.Prelude.{◌||◌, Some, None, option_map, sum_by}
 use Rattle.std.specs.List.{range_with_len, list_any}
 use Rattle.std.proofs.lemmas.Bool.{eqb-true, and_parts}
@@ -7,6 +7,7 @@ use Rattle.std.proofs.lemmas.List.{ext_get_or, get_or-drop, length-drop}
 use Rattle.std.proofs.lemmas.List.FromFn.{length-map-range_with_len, get_or-map-range_with_len}
 use Rattle.std.proofs.lemmas.List.Sums.{fold-append, sum_by-append}
 use Rattle.codec_definitions.specs.RawVideo.{is_key, with_chunk, from_last_key, picture_byte, picture_of, last_picture, is_whole_chunk}
+use Rattle.codec_definitions.specs.RawVideoEncoder.{less_bytes}
 use Rattle.raw_video.specs.Value.{added, picture_after}
 
 abbrev AreBytes : List ℕ → Type 0
@@ -67,7 +68,7 @@ delta_picture true size run bytes = ap Some (delta_more size run bytes)
 delta_picture false size run bytes = refl
 
 -- the definition over all chunks, by the picture after those before
-pub last_more : (size : ℕ) (chunks : List (List ℕ)) (bytes : List ℕ) → ((i : ℕ) → get_or bytes i 0 < 256) → is_whole_chunk size bytes ≡ true → last_picture size (chunks ++ bytes ∷ []) ≡ picture_after (last_picture size chunks) bytes
+pub last_more : (size : ℕ) (chunks : List (List ℕ)) (bytes : List ℕ) → (is_key bytes ≡ true → (i : ℕ) → get_or bytes i 0 < 256) → is_whole_chunk size bytes ≡ true → last_picture size (chunks ++ bytes ∷ []) ≡ picture_after (last_picture size chunks) bytes
 last_more size chunks bytes small whole =
     let run : List (List ℕ) = from_last_key chunks in
     let long = whole_length size bytes whole in
@@ -77,14 +78,21 @@ last_more size chunks bytes small whole =
     ap (λ (b : Bool). cond b (Some (picture_of size (from_last_key (chunks ++ bytes ∷ [])))) None) any ∙ ap (λ (l : List (List ℕ)). cond (list_any is_key chunks || is_key bytes) (Some (picture_of size l)) None) folds in
     all ∙ by_kind (is_key bytes) (list_any is_key chunks) size run bytes small long
   where
-    by_kind : (k b : Bool) (size : ℕ) (run : List (List ℕ)) (bytes : List ℕ) → AreBytes bytes → length bytes ≡ 1 + size →
+    by_kind : (k b : Bool) (size : ℕ) (run : List (List ℕ)) (bytes : List ℕ) → (k ≡ true → AreBytes bytes) → length bytes ≡ 1 + size →
         cond (b || k) (Some (picture_of size (cond k (bytes ∷ []) (run ++ bytes ∷ [])))) None ≡ cond k (Some (drop 1 bytes)) (option_map (λ p. added p (drop 1 bytes)) (cond b (Some (picture_of size run)) None))
-    by_kind true b size run bytes small long = ap (λ (c : Bool). cond c (Some (picture_of size (bytes ∷ []))) None) (or_true b) ∙ ap Some (key_alone size bytes small long)
+    by_kind true b size run bytes small long = ap (λ (c : Bool). cond c (Some (picture_of size (bytes ∷ []))) None) (or_true b) ∙ ap Some (key_alone size bytes (small refl) long)
     by_kind false b size run bytes small long = ap (λ (c : Bool). cond c (Some (picture_of size (run ++ bytes ∷ []))) None) (or_false b) ∙ delta_picture b size run bytes
 
 -- a picture that a loop has added to
 pub added_by : (old delta to : List ℕ) → length to ≡ length old → ((j : ℕ) → j < length old → get_or to j 0 ≡ (get_or old j 0 + get_or delta j 0) % 256) → to ≡ added old delta
 added_by old delta to long each =
     let f : ℕ → ℕ = λ j. (get_or old j 0 + get_or delta j 0) % 256 in
+    ext_get_or 0 to (map f (range_with_len 0 (length old))) (long ∙ sym (length-map-range_with_len f 0 (length old)))
+    (λ j below. each j (omega (arith, below, long)) ∙ sym (get_or-map-range_with_len f 0 (length old) j j 0 (omega (arith, below, long)) (omega arith)))
+
+-- and one that a loop has subtracted from
+pub subtracted_by : (old last to : List ℕ) → length to ≡ length old → ((j : ℕ) → j < length old → get_or to j 0 ≡ (get_or old j 0 + 256 - get_or last j 0) % 256) → to ≡ less_bytes old last
+subtracted_by old last to long each =
+    let f : ℕ → ℕ = λ j. (get_or old j 0 + 256 - get_or last j 0) % 256 in
     ext_get_or 0 to (map f (range_with_len 0 (length old))) (long ∙ sym (length-map-range_with_len f 0 (length old)))
     (λ j below. each j (omega (arith, below, long)) ∙ sym (get_or-map-range_with_len f 0 (length old) j j 0 (omega (arith, below, long)) (omega arith)))

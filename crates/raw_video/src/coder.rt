@@ -7,6 +7,7 @@ ghost use Rattle.raw_video.specs.Value.{id_of, IsServed, meaning_of, after, answ
 ghost use Rattle.raw_video.specs.Value.{next_picture, GivesUnits, GivesPictureUnit, AreBytes, AreBytesOf};
 ghost use Rattle.raw_video.specs.declared.coder.Setting.TheVariants as setting;
 
+use crate::ids::codec_of;
 use crate::picture::next_picture;
 use bytes::Bytes;
 use codec_definitions::Unit;
@@ -17,7 +18,7 @@ use std::marker::Model;
 use std::mem;
 use wc_base::{NoMemory, Picture, PictureFormat, PictureShape};
 use wc_chunk::Chunk;
-use wc_config::{AudioDecoderConfig, CodecId, CoderId, Config, Role, VideoDecoderConfig};
+use wc_config::{AudioDecoderConfig, CoderId, Config, Role, VideoDecoderConfig};
 
 /// A decoder of raw video: a chunk is a picture's planes, or what is added to those of the last picture.
 #[derive(Drop)]
@@ -123,15 +124,9 @@ impl Coder for RawVideo {
 fn id_of(format: PictureFormat) -> CoderId
     ensures { result ≡ id_of format }
 {
-    let codec = match format {
-        PictureFormat::I420 => CodecId::RawI420,
-        PictureFormat::I422 => CodecId::RawI422,
-        PictureFormat::I444 => CodecId::RawI444,
-        PictureFormat::Nv12 => CodecId::RawNv12,
-    };
     CoderId {
         role: Role::Decode,
-        codec,
+        codec: codec_of(format),
     }
 }
 
@@ -145,6 +140,7 @@ fn setting_of(format: PictureFormat, config: &Config) -> Result<Setting, NoMemor
         Config::VideoDecoder(c) => Ok(Setting::Decoder(pictures_of(format, c)?)),
         Config::AudioDecoder(_) => unreachable!(),
         Config::AudioEncoder(_) => unreachable!(),
+        Config::VideoEncoder(_) => unreachable!(),
         Config::Bad => unreachable!(),
     }
 }

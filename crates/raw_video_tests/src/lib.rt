@@ -1,5 +1,7 @@
-//! Tests of the coder of raw video.
+//! Tests of the coders of raw video.
 #![tactic(auto)]
 
 #[cfg(test)]
 mod coder_tests;
+#[cfg(test)]
+mod encoder_tests;

@@ -2,19 +2,18 @@
 use Rattle.std.proofs.Common.{arith, ◌≡◌, ℕ, Bool, true, false, List, [], ◌∷◌, Option, Some, None, refl, sym, ap, subst, ◌∙◌}
 use Rattle.std.specs.Prelude.{option_map, option_and_then}
 use Rattle.std.specs.List.{slice_get}
-use Rattle.wc_base.specs.declared.{error.DomError.DomError, media.Samples.Samples, who.Who.Who}
+use Rattle.wc_base.specs.declared.{error.DomError.DomError, who.Who.Who}
 use Rattle.wc_config.specs.declared.kind.Kind.{Kind}
 use Rattle.wc_chunk.specs.declared.chunk.Chunk.{Chunk}
-use Rattle.wc_pool.specs.declared.reference.MediaRef.{MediaRef}
-use Rattle.wc_audio.specs.Sound.{Sound}
 use Rattle.codec_definitions.specs.declared.unit.Unit as media
 use Rattle.codec_model.specs.declared.entry.{Pair.Pair, Handed.Handed, Call.Call, Entry.Entry, Shown.Shown}
 use Rattle.codec_model.specs.{Replay.State, Replay.handed_error, Held.adds_held, Shown.shown_at}
 use Rattle.codec_follow.specs.Follow.{filled_at}
 use Rattle.script_types.specs.declared.{script.ScriptData.ScriptData, steps.Step.Step, steps.MediaStep.MediaStep}
 use Rattle.report_text.specs.declared.{result.StepResult.StepResult, line.CallWord.CallWord, line.EntryLine.EntryLine}
-use Rattle.media_variables.specs.Variables.{sound_at, handed_by, handed_of}
-use Rattle.media_accounts.specs.Samples.{samples_before}
+use Rattle.media_variables.specs.Variables.{Reference, Lendable, lendable_at, handed_by, handed_of}
+use Rattle.codec_model.specs.declared.entry.Content.{Content}
+use Rattle.media_accounts.specs.Contents.{content_before}
 use Rattle.trace_text.specs.Follow.{Recorded, steps_of, chunk_for}
 use Rattle.trace_text.specs.Fits.{HasArguments, result_in, variables_at}
 use Rattle.trace_text.specs.Report.{refusal_in, entry_line_of}
@@ -58,11 +57,11 @@ entry_told script files known k place told x e h = cc
 -- ---- the exception of an encode
 
 -- what became of data that is not detached tells the exception
-handed_told : (error : Option DomError) (a : Option Samples) (b : Option Pair) (h : Handed) → handed_for true false error (clone_of a b) ≡ Some h → handed_error h ≡ error
+handed_told : (error : Option DomError) (a : Option Content) (b : Option Pair) (h : Handed) → handed_for true false error (clone_of a b) ≡ Some h → handed_error h ≡ error
 handed_told error a b h e = grind (arith, e)
 
 -- so what became of data is read again from the exception that it tells
-handed_again : (given gone : Bool) (error : Option DomError) (a : Option Samples) (b : Option Pair) (h : Handed) → handed_for given gone error (clone_of a b) ≡ Some h → handed_for given gone (handed_error h) (clone_of a b) ≡ Some h
+handed_again : (given gone : Bool) (error : Option DomError) (a : Option Content) (b : Option Pair) (h : Handed) → handed_for given gone error (clone_of a b) ≡ Some h → handed_for given gone (handed_error h) (clone_of a b) ≡ Some h
 handed_again given gone error a b h e = grind (arith, handed_told error a b h, e)
 
 -- an encode shows the exception that what became of its data tells
@@ -78,7 +77,7 @@ call_again : (kind : Kind) (files : List (List Chunk)) (known : Known) (steps : 
 call_again kind files known steps k place who CallWord.Encode error t us (Step.Media (MediaStep.Encode on content)) x is =
     let given = is_given (results_of known.callers who.caller) content.step in
     let gone = is_detached steps (results_of known.callers who.caller) who.step content.step in
-    let a = samples_before steps (taken_in known who.caller) who.step content.step in
+    let a = content_before steps (taken_in known who.caller) who.step content.step in
     let b = pair_for k place known.pool in
     where_mapped (λ (y : Call). option_map (λ h. Call.Encode h) (handed_for given gone (refusal_in (filled_at kind (Entry.Call who y) t us).events) (clone_of a b)) ≡ Some y) (λ (h : Handed). Call.Encode h) (handed_for given gone error (clone_of a b))
     (λ h found. rw (refusal_filled kind who h t us, handed_again given gone error a b h found) refl) x is
@@ -102,9 +101,9 @@ told_holds script files known k place told e kind t us h =
 -- what a run's variables hold is found in what its report shows
 pub record AreFound (script : ScriptData) (files : List (List Chunk)) (w : Recorded) (known : Known) : Type 0 where
   pub chunks : (c n j : ℕ) (value : Chunk) → chunk_for files (steps_of script c) (variables_at script files w c n) j ≡ Some value → chunk_found files (steps_of script c) (taken_in known c) j ≡ Some value
-  pub sounds : (c n j : ℕ) (x : Sound) (r : MediaRef) → sound_at (variables_at script files w c n) j ≡ Some x → x.held ≡ Some r
-      → samples_before (steps_of script c) (taken_in known c) n j ≡ Some (record { shape = x.shape; bytes = r.bytes })
-  pub standing : (c n j : ℕ) (r : StepResult) (x : Sound) → result_in w c n ≡ Some r → sound_at (variables_at script files w c n) j ≡ Some x → IsStanding (steps_of script c) (results_of known.callers c) n j x
+  pub contents : (c n j : ℕ) (x : Lendable) (r : Reference) → lendable_at (variables_at script files w c n) j ≡ Some x → x.held ≡ Some r
+      → content_before (steps_of script c) (taken_in known c) n j ≡ Some (record { shape = x.shape; bytes = r.bytes })
+  pub standing : (c n j : ℕ) (r : StepResult) (x : Lendable) → result_in w c n ≡ Some r → lendable_at (variables_at script files w c n) j ≡ Some x → IsStanding (steps_of script c) (results_of known.callers c) n j x
 
 -- an encode's clone is the first that the pool has of its entry
 abbrev pub HasPair : Known → ℕ → ℕ → Entry → Type 0
@@ -114,15 +113,15 @@ HasPair known k place e = (p : Pair) → adds_held e ≡ p ∷ [] → pair_for k
 abbrev pub IsMadeBy : Recorded → Who → Type 0
 IsMadeBy w who = (r : StepResult) × (result_in w who.caller who.step ≡ Some r)
 
-handed_made : (script : ScriptData) (files : List (List Chunk)) (w : Recorded) (known : Known) (k place : ℕ) (who : Who) (j number : ℕ) (accepts : Bool) (x : Sound) → AreFound script files w known
-    → HasPair known k place (Entry.Call who (Call.Encode (handed_of number accepts x))) → IsMadeBy w who → sound_at (variables_at script files w who.caller who.step) j ≡ Some x
+handed_made : (script : ScriptData) (files : List (List Chunk)) (w : Recorded) (known : Known) (k place : ℕ) (who : Who) (j number : ℕ) (accepts : Bool) (x : Lendable) → AreFound script files w known
+    → HasPair known k place (Entry.Call who (Call.Encode (handed_of number accepts x))) → IsMadeBy w who → lendable_at (variables_at script files w who.caller who.step) j ≡ Some x
     → handed_in known (steps_of script who.caller) k place who (handed_error (handed_of number accepts x)) j ≡ Some (handed_of number accepts x)
 handed_made script files w known k place who j number accepts x found pair made there =
     let stand = found.standing who.caller who.step j made.0 x made.1 there in
-    let handed : Option MediaRef → Handed = λ o. handed_by number accepts x.shape o in
+    let handed : Option Reference → Handed = λ o. handed_by number accepts x.shape o in
     elim x.held as (λ o. x.held ≡ o → HasPair known k place (Entry.Call who (Call.Encode (handed o))) → handed_in known (steps_of script who.caller) k place who (handed_error (handed o)) j ≡ Some (handed o)) [
       | None ↦ λ is own. grind (arith, stand.given, stand.gone, is)
-      | Some r ↦ λ is own. grind (arith, stand.given, stand.gone, is, found.sounds who.caller who.step j x r there is, own (record { resource = r.resource; reference = number }))
+      | Some r ↦ λ is own. grind (arith, stand.given, stand.gone, is, found.contents who.caller who.step j x r there is, own (record { resource = r.resource; reference = number }))
     ] refl pair
 
 -- ---- the call that a step makes

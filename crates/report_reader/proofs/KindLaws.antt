@@ -41,6 +41,7 @@ outputs_events Kind.AudioDecoder (Event.Output n (unit.Sound samples) ∷ es) ls
 outputs_events Kind.VideoDecoder (Event.Output n (unit.Image picture) ∷ es) ls none plain = ap (λ (us : List media.Unit). unit.Image picture ∷ us) (outputs_events Kind.VideoDecoder es ls none plain.1)
 outputs_events Kind.AudioEncoder (Event.Output n (unit.Coded chunk None) ∷ es) ls none plain = rw (config_events es ls none) (ap (λ (us : List media.Unit). unit.Coded chunk None ∷ us) (outputs_events Kind.AudioEncoder es ls none plain.1))
 outputs_events Kind.AudioEncoder (Event.Output n (unit.Coded chunk (Some c)) ∷ es) ls none plain = rw (plain.0.0, description_again c.description plain.0.1) (ap (λ (us : List media.Unit). unit.Coded chunk (Some c) ∷ us) (outputs_events Kind.AudioEncoder es ls none plain.1))
+outputs_events Kind.VideoEncoder (Event.Output n (unit.Coded chunk None) ∷ es) ls none plain = ap (λ (us : List media.Unit). unit.Coded chunk None ∷ us) (outputs_events Kind.VideoEncoder es ls none plain.1)
 outputs_events k (Event.Output n u ∷ es) ls none plain = absurd plain.0
 outputs_events k (e ∷ es) ls none plain = outputs_events k es ls none plain
 outputs_events k [] ls none plain = refl
@@ -79,6 +80,7 @@ unit_fits script Kind.VideoDecoder (EventLine.Image picture) ls own fits = (reco
 unit_fits script Kind.AudioEncoder (EventLine.Chunk chunk) ls own fits =
     let config = config_fits script ls fits in
     (record { plain = config.plain; fits = (own, config.fits) }, tt)
+unit_fits script Kind.VideoEncoder (EventLine.Chunk chunk) ls own fits = (record { plain = tt; fits = (own, tt) }, tt)
 unit_fits script _ _ ls own fits = tt
 
 pub empty_fits : (script : ScriptData) (k : Kind) → FitsUnit script k (empty_output k)

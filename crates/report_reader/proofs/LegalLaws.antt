@@ -19,7 +19,7 @@ use Rattle.script_types.specs.Sound.{is_sound}
 use Rattle.report_text.specs.declared.result.StepResult.{StepResult}
 use Rattle.media_variables.specs.Variables.{Taken, medium_at, chunk_in_medium}
 use Rattle.media_accounts.specs.Accounts.{without_last, ops_of_entry, called_for, called_at}
-use Rattle.media_accounts.specs.Samples.{chunk_of_unit, SamplesAreKept, ChunksAreTaken}
+use Rattle.media_accounts.specs.Contents.{chunk_of_unit, ContentsAreKept, ChunksAreTaken}
 use Rattle.trace_text.specs.{declared.run.CallerTrace.CallerTrace, declared.run.CodecTrace.CodecTrace, declared.run.Run.Run, FitsLaws.calls_by_places}
 use Rattle.trace_text.specs.Follow.{Recorded, steps_of, opening_in, opening_at, chunk_at}
 use Rattle.trace_text.specs.Fits.{Fits, IsLegalTrace, AreLegalTraces, IsLegalRun, LocalStepsAnswer, recorded_of, entry_in, result_in, taken_by, brought_to, variables_at}
@@ -71,7 +71,7 @@ taken_is script run legal c j t brought = grind (arith, results_at run.callers c
 either_found : (made a b : Option Chunk) (value : Chunk) → ((c : Chunk) → a ≡ Some c → b ≡ Some c) → option_or made a ≡ Some value → option_or made b ≡ Some value
 either_found made a b value h e = grind (arith, h, e)
 
-all_found : SamplesAreKept → ChunksAreTaken → (script : ScriptData) (files : List (List Chunk)) (run : Run) → AreLegalTraces script.codecs run.codecs → LocalStepsAnswer script files run → AreFound script files (recorded_of run) (known_of run)
+all_found : ContentsAreKept → ChunksAreTaken → (script : ScriptData) (files : List (List Chunk)) (run : Run) → AreLegalTraces script.codecs run.codecs → LocalStepsAnswer script files run → AreFound script files (recorded_of run) (known_of run)
 all_found kept taken script files run legal locals =
     let w = recorded_of run in
     let brought = brought_to script files w in
@@ -81,8 +81,8 @@ all_found kept taken script files run legal locals =
           let vs = variables_at script files w c n in
           either_found (chunk_at files (steps_of script c) j) (option_and_then chunk_in_medium (medium_at vs j)) (option_and_then chunk_of_unit (taken_in known c j)) value
           (λ chunk is. taken (steps_of script) brought w.pool c (taken_in known c) n j chunk (λ i on bind kind t made is. taken_is script run legal c i t is) is) e;
-      sounds = λ c n j x r is held. kept (steps_of script) brought w.pool c (taken_in known c) n j x r (λ i on bind kind t made is. taken_is script run legal c i t is) is held;
-      standing = λ c n j r x there sound. subst (λ (rs : List StepResult). IsStanding (steps_of script c) rs n j x) (results_at run.callers c) (stands script files w locals c n j r x there sound);
+      contents = λ c n j x r is held. kept (steps_of script) brought w.pool c (taken_in known c) n j x r (λ i on bind kind t made is. taken_is script run legal c i t is) is held;
+      standing = λ c n j r x there lent. subst (λ (rs : List StepResult). IsStanding (steps_of script c) rs n j x) (results_at run.callers c) (stands script files w locals c n j r x there lent);
     }
 
 -- ---- clones
@@ -129,7 +129,7 @@ pub record HistoryLaws : Type 0 where
   pub fill : LegalFills
   pub kinds : OutputsAreOfKind
   pub lines : LegalRunsFit
-  pub kept : SamplesAreKept
+  pub kept : ContentsAreKept
   pub taken : ChunksAreTaken
 
 -- ---- codecs

@@ -1,4 +1,4 @@
--- Which variables hold audio data, and which data is detached, by the results of their callers' steps.
+-- Which variables hold media, and which of these are detached, by the results of their callers' steps.
 use Rattle.std.proofs.Common.{ℕ, zero, suc, ◌≡◌, ◌<◌, ◌≤◌, Bool, true, false, cond, List, [], ◌∷◌, length, Option, Some, None, refl, ap, sym, subst, ◌∙◌, arith}
 use Rattle.std.specs.Prelude.{IfSome, slice_get, option_and_then, ◌==◌}
 use Rattle.std.specs.Option.{is_none}
@@ -7,22 +7,22 @@ use Rattle.wc_base.specs.declared.who.Who.{Who}
 use Rattle.wc_chunk.specs.declared.chunk.Chunk.{Chunk}
 use Rattle.codec_definitions.specs.declared.unit.Unit as output
 use Rattle.wc_pool.specs.declared.entry.PoolEntry.{PoolEntry}
-use Rattle.wc_audio.specs.Sound.{Sound}
 use Rattle.codec_accounts.specs.Owed.{at}
 use Rattle.script_types.specs.{declared.script.ScriptData.ScriptData, declared.steps.MediaStep.MediaStep, declared.steps.Step.Step, Names.taken_from}
 use Rattle.report_text.specs.declared.result.StepResult.{StepResult}
 use Rattle.media_variables.specs.CameLaws.{EachCame, by_came}
-use Rattle.media_variables.specs.Variables.{Reference, Shape, SoundOf, Medium, Came, Brought, medium_at, with_medium, detached, refused, unit_came, sound_in, sound_at, media_came}
+use Rattle.media_variables.specs.Variables.{Reference, Shape, SoundOf, PictureOf, ChunkOf, Medium, Came, Brought, Lendable, medium_at, with_medium, detached, refused, unit_came, lendable_in, lendable_at, media_came}
 use Rattle.media_accounts.specs.Accounts.{step_by, before_step, media_of, variables_by}
 use Rattle.trace_text.specs.Follow.{Recorded, steps_of}
 use Rattle.trace_text.specs.Fits.{LocalsAreIn, result_in, brought_to, variables_at}
 use Rattle.report_reader.specs.Arguments.{is_ok, gives, is_given, detached_in, is_named, is_detached}
 use Rattle.report_reader.proofs.NameLaws.{there}
 
--- Of audio data that a variable holds: that its step gave it, and whether it is detached.
+-- Of audio data or a frame that a variable holds: that its step gave it, and whether it is detached.
 abbrev IsSo : Bool → Bool → Shape → Option Reference → Type 0
 IsSo given gone (SoundOf shape) held = (given ≡ true) × (gone ≡ is_none held)
-IsSo given gone _ held = Unit {0}
+IsSo given gone (PictureOf shape) held = (given ≡ true) × (gone ≡ is_none held)
+IsSo given gone (ChunkOf chunk) held = Unit {0}
 
 -- A variable that holds something is one of n steps, and is so; one that holds nothing is not detached.
 abbrev IsAt : Bool → Bool → ℕ → ℕ → Option Medium → Type 0
@@ -84,7 +84,7 @@ each_all p who b given f vs r gave all = record {
   refuses = λ x e k. same_all given f _ who.step vs (stays b x (refused e) r refl k) all;
   absent = λ x k. same_all given f _ who.step vs (stays b x StepResult.Absent r refl k) all;
   audio = λ bind i k. new_all given f who.step vs _ (grind (arith, gave, k)) all;
-  frame = λ bind i k. new_all given f who.step vs _ tt all;
+  frame = λ bind i k. new_all given f who.step vs _ (grind (arith, gave, k)) all;
   takes = λ on bind kind t is k. unit_all p given f who.step vs t.answer t.unit (gave ∙ rw is at k) all;
   clones = λ of bind m q is holds k. new_all given f who.step vs _ (grind (arith, gave, k)) all;
   transfers = λ of bind m q is holds k. rw k (moved_all given f who.step of.step vs m is (grind (arith, gave, k, holds)) all);
@@ -110,13 +110,13 @@ step_all p who brings None given f vs r gave a all = same_all given f None who.s
 step_all p who brings (Some (Step.Media x)) given f vs r gave a all = came_all p who (brings x) x given f vs r gave (a x refl) all _ refl
 step_all p who brings (Some _) given f vs r gave a all = same_all given f None who.step vs refl all
 
--- what a report's results tell of audio data that a variable holds after n steps
-pub record IsStanding (steps : List Step) (results : List StepResult) (n j : ℕ) (x : Sound) : Type 0 where
+-- what a report's results tell of audio data or a frame that a variable holds after n steps
+pub record IsStanding (steps : List Step) (results : List StepResult) (n j : ℕ) (x : Lendable) : Type 0 where
   pub given : is_given results j ≡ true
   pub gone : is_detached steps results n j ≡ is_none x.held
 
-sound_stands : (given gone : Bool) (j n : ℕ) (o : Option Medium) (x : Sound) → IsAt given gone j n o → option_and_then sound_in o ≡ Some x → (given ≡ true) × (gone ≡ is_none x.held)
-sound_stands given gone j n o x at sound = grind (arith, at, sound)
+medium_stands : (given gone : Bool) (j n : ℕ) (o : Option Medium) (x : Lendable) → IsAt given gone j n o → option_and_then sound_in o ≡ Some x → (given ≡ true) × (gone ≡ is_none x.held)
+medium_stands given gone j n o x at lent = grind (arith, at, lent)
 
 -- ---- what is known of a run
 
@@ -134,10 +134,10 @@ module _ (s : ScriptData) (files : List (List Chunk)) (w : Recorded) (locals : L
       (step_all (before_step c n w.pool) (step_by c n) (brought_to s files w c n) (slice_get (steps_of s c) n) (is_given results) (is_detached (steps_of s c) results n) (variables_at s files w c n) here.0
       (ap (λ (o : Option StepResult). elim o [ None ↦ false | Some answer ↦ gives answer ]) here.1) (made_so n here.0 here.1) (all_steps n (omega (arith, le))))
 
-  -- the results of a caller, up to a step that was made, tell of audio data of its variables whether it is detached
-  pub stands : (n j : ℕ) (r : StepResult) (x : Sound) → result_in w c n ≡ Some r → sound_at (variables_at s files w c n) j ≡ Some x → IsStanding (steps_of s c) (at c w.callers) n j x
-  stands n j r x there sound =
+  -- the results of a caller, up to a step that was made, tell of the media of its variables whether they are detached
+  pub stands : (n j : ℕ) (r : StepResult) (x : Lendable) → result_in w c n ≡ Some r → sound_at (variables_at s files w c n) j ≡ Some x → IsStanding (steps_of s c) (at c w.callers) n j x
+  stands n j r x there lent =
       let results = at c w.callers in
       let all = all_steps n (omega (arith, slice_get_within results n r there)) j in
-      let both = sound_stands (is_given results j) (is_detached (steps_of s c) results n j) j n (medium_at (variables_at s files w c n) j) x all sound in
+      let both = medium_stands (is_given results j) (is_detached (steps_of s c) results n j) j n (medium_at (variables_at s files w c n) j) x all lent in
       record { given = both.0; gone = both.1 }

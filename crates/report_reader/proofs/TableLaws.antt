@@ -1,4 +1,4 @@
--- The results of a caller by its number, the samples of a variable by its step, and what a table has that keeps the first value of
+-- The results of a caller by its number, the medium of a variable by its step, and what a table has that keeps the first value of
 -- each key.
 use Rattle.std.proofs.Common.{ℕ, zero, suc, ◌≡◌, ◌+◌, ◌<◌, ◌≤◌, Bool, true, false, cond, List, [], ◌∷◌, length, get_or, Option, Some, None, is_some, refl, ap, sym, ◌∙◌, arith}
 use Rattle.std.specs.Prelude.{slice_get, option_and_then, option_map, unwrap_or, nat_lt, ◌==◌, ◌&&◌}
@@ -7,11 +7,11 @@ use Rattle.std.specs.Option.{option_or}
 use Rattle.std.specs.BTreeMap.{BTreeMap, get, is_at}
 use Rattle.std.proofs.lemmas.Bool.{eqb-true, lt-ltb, le-ltb}
 use Rattle.std.proofs.lemmas.Bool.Decides.{nat_tests}
-use Rattle.wc_base.specs.declared.media.Samples.{Samples}
 use Rattle.codec_definitions.specs.declared.unit.Unit as media
 use Rattle.script_types.specs.declared.{script.ScriptData.ScriptData, steps.Step.Step, script.CallerItem.CallerItem}
 use Rattle.trace_text.specs.{declared.run.CallerTrace.CallerTrace, Follow.steps_of, Follow.steps_in}
-use Rattle.media_accounts.specs.Samples.{samples_by, samples_before}
+use Rattle.codec_model.specs.declared.entry.Content.{Content}
+use Rattle.media_accounts.specs.Contents.{content_by, content_before}
 use Rattle.report_text.specs.declared.result.StepResult.{StepResult}
 use Rattle.report_reader.specs.Arguments.{results_of, is_named, detached_by, is_detached}
 use Rattle.report_reader.specs.Tables.{key_cmp, is_before, first_named}
@@ -42,31 +42,31 @@ steps_read c callers x lt is = steps_are c callers ∙ rw (slice_get_read caller
 pub steps_past : (c : ℕ) (callers : List CallerItem) → length callers ≤ c → steps_in callers c ≡ []
 steps_past c callers beyond = steps_are c callers ∙ rw (slice_get_past callers c beyond) refl
 
--- ---- samples
+-- ---- media
 
-abbrev defined : List Step → (ℕ → Option media.Unit) → ℕ → Option Samples
-defined steps taken j = option_and_then (samples_by (samples_before steps taken j) (taken j)) (slice_get steps j)
+abbrev defined : List Step → (ℕ → Option media.Unit) → ℕ → Option Content
+defined steps taken j = option_and_then (content_by (content_before steps taken j) (taken j)) (slice_get steps j)
 
--- a variable has the samples that its own step gives, once that was made
-samples_are : (steps : List Step) (taken : ℕ → Option media.Unit) (n j : ℕ) → samples_before steps taken n j ≡ cond (nat_lt j n) (defined steps taken j) None
-samples_are steps taken zero j = grind (arith, nat_tests)
-samples_are steps taken (suc n) j = grind (arith, nat_tests, eqb-true j n, samples_are steps taken n j)
+-- a variable has what its own step gives, once that was made
+contents_are : (steps : List Step) (taken : ℕ → Option media.Unit) (n j : ℕ) → content_before steps taken n j ≡ cond (nat_lt j n) (defined steps taken j) None
+contents_are steps taken zero j = grind (arith, nat_tests)
+contents_are steps taken (suc n) j = grind (arith, nat_tests, eqb-true j n, contents_are steps taken n j)
 
-defined_at : (steps : List Step) (taken : ℕ → Option media.Unit) (n j : ℕ) → j < n → samples_before steps taken n j ≡ defined steps taken j
-defined_at steps taken n j lt = rw (lt-ltb j n lt) at (samples_are steps taken n j)
+defined_at : (steps : List Step) (taken : ℕ → Option media.Unit) (n j : ℕ) → j < n → content_before steps taken n j ≡ defined steps taken j
+defined_at steps taken n j lt = rw (lt-ltb j n lt) at (contents_are steps taken n j)
 
 -- a step that was not made gives none
-pub undefined_at : (steps : List Step) (taken : ℕ → Option media.Unit) (n j : ℕ) → n ≤ j → samples_before steps taken n j ≡ None
-undefined_at steps taken n j le = rw (le-ltb j n le) at (samples_are steps taken n j)
+pub undefined_at : (steps : List Step) (taken : ℕ → Option media.Unit) (n j : ℕ) → n ≤ j → content_before steps taken n j ≡ None
+undefined_at steps taken n j le = rw (le-ltb j n le) at (contents_are steps taken n j)
 
 pub defined_read : (steps : List Step) (taken : ℕ → Option media.Unit) (n j : ℕ) (x : Step) → j < n → j < length steps → x ≡ get_or steps j x
-    → samples_before steps taken n j ≡ samples_by (samples_before steps taken j) (taken j) x
+    → content_before steps taken n j ≡ content_by (content_before steps taken j) (taken j) x
 defined_read steps taken n j x lt there is =
-    defined_at steps taken n j lt ∙ ap (λ (o : Option Step). option_and_then (samples_by (samples_before steps taken j) (taken j)) o) (slice_get_read steps (length steps) j x refl there is)
+    defined_at steps taken n j lt ∙ ap (λ (o : Option Step). option_and_then (content_by (content_before steps taken j) (taken j)) o) (slice_get_read steps (length steps) j x refl there is)
 
-pub defined_past : (steps : List Step) (taken : ℕ → Option media.Unit) (n j : ℕ) → j < n → length steps ≤ j → samples_before steps taken n j ≡ None
+pub defined_past : (steps : List Step) (taken : ℕ → Option media.Unit) (n j : ℕ) → j < n → length steps ≤ j → content_before steps taken n j ≡ None
 defined_past steps taken n j lt beyond =
-    defined_at steps taken n j lt ∙ ap (λ (o : Option Step). option_and_then (samples_by (samples_before steps taken j) (taken j)) o) (slice_get_past steps j beyond)
+    defined_at steps taken n j lt ∙ ap (λ (o : Option Step). option_and_then (content_by (content_before steps taken j) (taken j)) o) (slice_get_past steps j beyond)
 
 -- ---- tables
 

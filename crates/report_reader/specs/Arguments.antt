@@ -3,7 +3,6 @@ use Rattle.std.specs.Prelude.{ℕ, zero, suc, ◌==◌, Bool, true, false, List,
 use Rattle.std.specs.Option.{option_or}
 use Rattle.wc_base.specs.declared.error.DomError.{DomError}
 use Rattle.wc_base.specs.declared.error.DomError.TheVariants as dom
-use Rattle.wc_base.specs.declared.media.Samples.{Samples}
 use Rattle.wc_base.specs.declared.who.Who.{Who}
 use Rattle.wc_chunk.specs.declared.chunk.Chunk.{Chunk}
 use Rattle.wc_pool.specs.declared.entry.PoolEntry.{PoolEntry}
@@ -29,7 +28,8 @@ use Rattle.report_text.specs.declared.line.CallWord.TheVariants as word
 use Rattle.report_text.specs.declared.line.EntryLine.{EntryLine}
 use Rattle.report_text.specs.declared.line.EntryLine.TheVariants as entry_line
 use Rattle.media_accounts.specs.Accounts.{is_by_entry}
-use Rattle.media_accounts.specs.Samples.{chunk_of_unit, samples_before}
+use Rattle.codec_model.specs.declared.entry.Content.{Content}
+use Rattle.media_accounts.specs.Contents.{chunk_of_unit, content_before}
 use Rattle.trace_text.specs.declared.run.CallerTrace.{CallerTrace}
 use Rattle.trace_text.specs.Follow.{steps_of, chunk_at}
 use Rattle.report_reader.specs.declared.known.Known.{Known}
@@ -72,11 +72,11 @@ abbrev pub pair_for : ℕ → ℕ → List PoolEntry → Option Pair
 pair_for k place [] = None
 pair_for k place (e ∷ es) = option_or (cloned_by k place e) (pair_for k place es)
 
-abbrev pub clone_of : Option Samples → Option Pair → Option Handed
-clone_of (Some s) (Some p) = Some (handed.Cloned (record { samples = s; pair = p }))
+abbrev pub clone_of : Option Content → Option Pair → Option Handed
+clone_of (Some c) (Some p) = Some (handed.Cloned (record { shape = c.shape; bytes = c.bytes; pair = p }))
 clone_of _ _ = None
 
--- ---- audio data that is there, and that is detached
+-- ---- media that are there, and that are detached
 
 -- a step that is answered without an exception
 abbrev pub is_ok : StepResult → Bool
@@ -106,12 +106,12 @@ abbrev pub is_named : ℕ → Option ℕ → Bool
 is_named j None = false
 is_named j (Some i) = i == j
 
--- whether one of the first n steps detached the data of the variable that step j defines
+-- whether one of the first n steps detached the medium of the variable that step j defines
 abbrev pub is_detached : List Step → List StepResult → ℕ → ℕ → Bool
 is_detached steps results zero j = false
 is_detached steps results (suc n) j = if is_detached steps results n j then true else is_named j (detached_by steps results n)
 
--- What became of an encode's data, where it is there: it is gone where it is detached, whatever the exception is; else the exception
+-- What became of an encode's medium, where it is there: it is gone where it is detached, whatever the exception is; else the exception
 -- says that the codec is not configured, or the codec made a clone.
 abbrev pub handed_for : Bool → Bool → Option DomError → Option Handed → Option Handed
 handed_for false gone error clone = None
@@ -120,12 +120,12 @@ handed_for true false None clone = clone
 handed_for true false (Some dom.InvalidState) clone = Some handed.Kept
 handed_for true false (Some error) clone = None
 
--- what became of the data of the variable that the step with this number defines, for an encode with this exception at this place
+-- what became of the medium of the variable that the step with this number defines, for an encode with this exception at this place
 -- of the codec with this number
 abbrev pub handed_in : Known → List Step → ℕ → ℕ → Who → Option DomError → ℕ → Option Handed
 handed_in known steps k place who error j =
     let results = results_of known.callers who.caller in
-    let clone = clone_of (samples_before steps (taken_in known who.caller) who.step j) (pair_for k place known.pool) in
+    let clone = clone_of (content_before steps (taken_in known who.caller) who.step j) (pair_for k place known.pool) in
     handed_for (is_given results j) (is_detached steps results who.step j) error clone
 
 -- the call of this word and exception with the arguments of a step of its caller's steps, if the step makes such a call. `media` has

@@ -94,11 +94,13 @@ config_in (line.Event (event_line.Config codec rate channels description) ∷ ls
 config_in _ = None
 
 -- The output that a line shows, if it shows one of a codec of this kind: an audio decoder gives samples, whose rate is above
--- 0, an audio encoder chunks, and a video decoder pictures. A chunk has the config of the line behind it.
+-- 0, an audio encoder chunks, a video decoder pictures, and a video encoder chunks. A chunk of an audio encoder has the config of
+-- the line behind it, and one of a video encoder has none.
 abbrev pub unit_of : Kind → EventLine → Option AudioDecoderConfig → Option media.Unit
 unit_of kind.AudioDecoder (event_line.Sound samples) config = if nat_lt 0 samples.shape.rate then Some (unit.Sound samples) else None
 unit_of kind.AudioEncoder (event_line.Chunk chunk) config = Some (unit.Coded chunk config)
 unit_of kind.VideoDecoder (event_line.Image picture) config = Some (unit.Image picture)
+unit_of kind.VideoEncoder (event_line.Chunk chunk) config = Some (unit.Coded chunk None)
 unit_of k _ config = None
 
 -- the outputs in front of a codec of this kind, among the lines of entries

@@ -1,19 +1,19 @@
 // Entries get the arguments of their steps.
 ghost use Rattle.std.specs.Prelude.{◌≡◌, IfOk, Some, None, option_and_then, option_map, slice_get};
-ghost use Rattle.media_accounts.specs.Samples.{chunk_of_unit};
+ghost use Rattle.media_accounts.specs.Contents.{chunk_of_unit};
 ghost use Rattle.trace_text.specs.Follow.{steps_of};
 ghost use Rattle.report_reader.specs.Arguments as spec;
 ghost use Rattle.report_reader.specs.Tables.{AreTables};
 
-use crate::clones::find_samples;
+use crate::clones::find_content;
 use crate::known::{Known, is_given, taken_in};
 use crate::tables::{Tables, is_ended, pair_at};
-use codec_model::{Call, Entry, Handed, HeldSound, Pair};
+use codec_model::{Call, Content, Entry, Handed, HeldMedium, Pair};
 use coder_api::Unit;
 use report_text::{CallWord, EntryLine};
 use script_types::{MediaStep, ScriptData, Step};
 use trace_text::{find_chunk, steps_of};
-use wc_base::{DomError, List, NoMemory, Samples, Who};
+use wc_base::{DomError, List, NoMemory, Who};
 use wc_chunk::Chunk;
 
 // A decode of this chunk, if there is one.
@@ -64,17 +64,21 @@ fn chunk_found(
     }
 }
 
-// A clone of these samples, if both are there.
-fn clone_of(samples: Option<Samples>, pair: Option<Pair>) -> Option<Handed>
-    ensures { result ≡ spec.clone_of samples pair }
+// A clone of this, if both are there.
+fn clone_of(content: Option<Content>, pair: Option<Pair>) -> Option<Handed>
+    ensures { result ≡ spec.clone_of content pair }
 {
-    match (samples, pair) {
-        (Some(samples), Some(pair)) => Some(Handed::Cloned(HeldSound { samples, pair })),
+    match (content, pair) {
+        (Some(content), Some(pair)) => Some(Handed::Cloned(HeldMedium {
+            shape: content.shape,
+            bytes: content.bytes,
+            pair,
+        })),
         _ => None,
     }
 }
 
-// What became of the data of the variable that the step with this number defines, by the results of its caller and the
+// What became of the medium of the variable that the step with this number defines, by the results of its caller and the
 // exception of its encode.
 fn handed_in(
     script: &ScriptData,
@@ -99,15 +103,15 @@ fn handed_in(
     match error {
         None => {
             let steps = steps_of(script, who.caller);
-            let samples = find_samples(known, steps, who.caller, who.step, content)?;
-            Ok(clone_of(samples, pair_at(tables, codec, place)))
+            let content = find_content(known, steps, who.caller, who.step, content)?;
+            Ok(clone_of(content, pair_at(tables, codec, place)))
         }
         Some(DomError::InvalidState) => Ok(Some(Handed::Kept)),
         Some(_) => Ok(None),
     }
 }
 
-// An encode with which this became of its data, if that is known.
+// An encode with which this became of its medium, if that is known.
 fn encode_of(handed: Option<Handed>) -> Option<Call>
     ensures { result ≡ option_map (λ h. Call.Encode h) handed }
 {
@@ -213,8 +217,8 @@ fn entry_with(who: Who, call: Option<Call>) -> Option<Entry>
 }
 
 /// The entry of a line at this place of the codec with this number, with the arguments of its step. `None` where its step
-/// makes no such call and no take, decodes a chunk that is absent, or encodes data that is absent, or with another exception
-/// than an encode of such data has, or data or a clone that the report does not show.
+/// makes no such call and no take, decodes a chunk that is absent, or encodes a medium that is absent, or with another
+/// exception than an encode of such a medium has, or a medium or a clone that the report does not show.
 pub fn entry_of(
     script: &ScriptData,
     media: &[List<Chunk>],

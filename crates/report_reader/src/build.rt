@@ -1,6 +1,7 @@
 // What the lines of a report show.
 ghost use Rattle.std.specs.Prelude.{◌≡◌, ◌++◌, ◌∷◌, [], IfOk, OnOk, Some, None, drop, length, if◌then◌else◌};
 ghost use Rattle.std.specs.Option.{option_copied, option_to_list};
+ghost use Rattle.codec_definitions.specs.declared.unit.Unit.TheVariants as unit;
 ghost use Rattle.codec_follow.specs.Outputs.{is_codec_string};
 ghost use Rattle.wc_config.specs.declared.kind.Kind.TheVariants as kinds;
 ghost use Rattle.report_text.specs.declared.line.EventLine.TheVariants as event_line;
@@ -199,7 +200,21 @@ fn samples_of(samples: &Samples) -> Result<Option<Unit>, AllocError>
     })))
 }
 
-// The output that a line shows, if it shows one of a codec of this kind; a chunk has the config of the line behind it.
+// A chunk of a line, with this config.
+fn coded_of(chunk: &Chunk, config: Option<AudioDecoderConfig>) -> Result<Unit, AllocError>
+    ensures { IfOk result (λ u. u ≡ unit.Coded chunk.now config) }
+{
+    let chunk = Chunk {
+        key: chunk.key,
+        timestamp: chunk.timestamp,
+        duration: chunk.duration,
+        bytes: chunk.bytes.clone()?,
+    };
+    Ok(Unit::Coded { chunk, config })
+}
+
+// The output that a line shows, if it shows one of a codec of this kind. A chunk of an audio encoder has the config of
+// the line behind it, and one of a video encoder has none.
 fn unit_of(
     alloc: Global,
     kind: Kind,
@@ -215,15 +230,10 @@ fn unit_of(
             bytes: picture.bytes.clone()?,
         }))),
         (Kind::AudioEncoder, EventLine::Chunk(chunk)) => {
-            let chunk = Chunk {
-                key: chunk.key,
-                timestamp: chunk.timestamp,
-                duration: chunk.duration,
-                bytes: chunk.bytes.clone()?,
-            };
             let config = config_in(alloc, behind)?;
-            Ok(Some(Unit::Coded { chunk, config }))
+            Ok(Some(coded_of(chunk, config)?))
         }
+        (Kind::VideoEncoder, EventLine::Chunk(chunk)) => Ok(Some(coded_of(chunk, None)?)),
         _ => Ok(None),
     }
 }

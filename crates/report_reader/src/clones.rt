@@ -1,16 +1,19 @@
-// The samples that encodes are given.
+// The media that encodes are given.
 ghost use Rattle.std.specs.Prelude.{ℕ, ◌≡◌, IfOk, IfNone, IfSome, None, Option, min, option_and_then};
-ghost use Rattle.wc_base.specs.declared.media.Samples as samples;
 ghost use Rattle.codec_definitions.specs.declared.unit.Unit as unit;
+ghost use Rattle.picture_planes.specs.Planes as planes;
 ghost use Rattle.wc_audio.specs.Sound as sound;
-ghost use Rattle.media_accounts.specs.Samples.{samples_by, samples_before, samples_of_init, sound_of_unit};
+ghost use Rattle.codec_model.specs.declared.entry.Content as contents;
+ghost use Rattle.media_accounts.specs.Contents.{content_by, content_before, content_of_picture, content_of_sound, content_of_unit};
 ghost use Rattle.report_reader.specs.Arguments as spec;
 
 use crate::known::{Known, taken_in};
+use codec_model::{Content, MediaShape};
 use coder_api::Unit;
+use picture_planes::picture_size;
 use sample_conversion::format_size;
-use script_types::{MediaStep, SoundInit, Step};
-use wc_base::{NoMemory, Samples, SoundShape};
+use script_types::{MediaStep, PictureInit, SoundInit, Step};
+use wc_base::{NoMemory, PictureShape, SoundShape};
 
 // As many bytes as the shape needs, or as there are, where there are fewer.
 fn needed(shape: &SoundShape, bytes: usize) -> usize
@@ -25,50 +28,80 @@ fn needed(shape: &SoundShape, bytes: usize) -> usize
     }
 }
 
-// The samples of audio data that is made of this.
-fn samples_of_init(init: &SoundInit) -> Result<Samples, NoMemory>
-    ensures { IfOk result (λ s. s ≡ samples_of_init init.now) }
+// As many bytes as the picture needs, or as there are, where there are fewer.
+fn picture_bytes(shape: &PictureShape, bytes: usize) -> usize
+    ensures { result ≡ min (planes.picture_size shape.now) bytes }
+{
+    match picture_size(shape) {
+        Some(count) if count <= bytes => count,
+        _ => bytes,
+    }
+}
+
+// What audio data is that is made of this.
+fn content_of_sound(init: &SoundInit) -> Result<Content, NoMemory>
+    ensures { IfOk result (λ c. c ≡ content_of_sound init.now) }
 {
     let mut bytes = init.content.clone()?;
     let count = needed(&init.shape, bytes.len());
     bytes.truncate(count);
-    Ok(Samples {
-        shape: init.shape,
+    Ok(Content {
+        shape: MediaShape::Sound(init.shape),
         bytes,
     })
 }
 
-// The samples of an output, if it has some.
-fn samples_of_unit(unit: &Unit) -> Result<Option<Samples>, NoMemory>
-    ensures { IfOk result (λ o. o ≡ sound_of_unit unit.now) }
+// What a frame is that is made of this.
+fn content_of_picture(init: &PictureInit) -> Result<Content, NoMemory>
+    ensures { IfOk result (λ c. c ≡ content_of_picture init.now) }
+{
+    let mut bytes = init.content.clone()?;
+    let count = picture_bytes(&init.shape, bytes.len());
+    bytes.truncate(count);
+    Ok(Content {
+        shape: MediaShape::Image(init.shape),
+        bytes,
+    })
+}
+
+// What an output is, if it is samples or a picture.
+fn content_of_unit(unit: &Unit) -> Result<Option<Content>, NoMemory>
+    ensures { IfOk result (λ o. o ≡ content_of_unit unit.now) }
 {
     match unit {
-        Unit::Sound(samples) => Ok(Some(Samples {
-            shape: samples.shape,
+        Unit::Sound(samples) => Ok(Some(Content {
+            shape: MediaShape::Sound(samples.shape),
             bytes: samples.bytes.clone()?,
         })),
-        _ => Ok(None),
+        Unit::Image(picture) => Ok(Some(Content {
+            shape: MediaShape::Image(picture.shape),
+            bytes: picture.bytes.clone()?,
+        })),
+        Unit::Coded {
+            chunk: _,
+            config: _,
+        } => Ok(None),
     }
 }
 
-// The samples of the output that a step took, if it took some.
-fn samples_taken(known: &Known, caller: u32, step: u32) -> Result<Option<Samples>, NoMemory>
+// What the output is that a step took, if it took samples or a picture.
+fn content_taken(known: &Known, caller: u32, step: u32) -> Result<Option<Content>, NoMemory>
     ensures { IfOk result
-        (λ o. o ≡ option_and_then sound_of_unit (spec.taken_in known.now caller step)) }
+        (λ o. o ≡ option_and_then content_of_unit (spec.taken_in known.now caller step)) }
 {
     match taken_in(known, caller, step) {
-        Some(unit) => samples_of_unit(unit),
+        Some(unit) => content_of_unit(unit),
         None => Ok(None),
     }
 }
 
-// The step that defines the variable whose data a step clones or hands on, if it does.
+// The step that defines the variable whose medium a step clones or hands on, if it does.
 fn source_of(step: &Step) -> Option<u32>
-    ensures some { (earlier : ℕ → Option samples.Samples) (taken : Option unit.Unit)
-        → IfSome result (λ j. samples_by earlier taken step.now ≡ earlier j) }
-    ensures none { (earlier : ℕ → Option samples.Samples) (taken : Option unit.Unit)
-        → IfNone result (samples_by earlier taken step.now
-        ≡ samples_by (λ j. None) taken step.now) }
+    ensures some { (earlier : ℕ → Option contents.Content) (taken : Option unit.Unit)
+        → IfSome result (λ j. content_by earlier taken step.now ≡ earlier j) }
+    ensures none { (earlier : ℕ → Option contents.Content) (taken : Option unit.Unit)
+        → IfNone result (content_by earlier taken step.now
+        ≡ content_by (λ j. None) taken step.now) }
 {
     match step {
         Step::Media(MediaStep::Clone { of, bind: _ }) => Some(of.step),
@@ -77,15 +110,15 @@ fn source_of(step: &Step) -> Option<u32>
     }
 }
 
-// The samples that the step with this number of a caller gives its variable, where it clones and hands on nothing.
-fn own_samples(
+// What the step with this number of a caller gives its variable, where it clones and hands on nothing.
+fn own_content(
     known: &Known,
     caller: u32,
     number: u32,
     step: &Step,
-) -> Result<Option<Samples>, NoMemory>
+) -> Result<Option<Content>, NoMemory>
     ensures { IfOk result
-        (λ o. o ≡ samples_by (λ j. None) (spec.taken_in known.now caller number) step.now) }
+        (λ o. o ≡ content_by (λ j. None) (spec.taken_in known.now caller number) step.now) }
 {
     match step {
         Step::Media(
@@ -93,23 +126,29 @@ fn own_samples(
                 bind: _,
                 init: Some(init),
             },
-        ) => Ok(Some(samples_of_init(init)?)),
-        Step::Media(MediaStep::Take { .. }) => samples_taken(known, caller, number),
+        ) => Ok(Some(content_of_sound(init)?)),
+        Step::Media(
+            MediaStep::Frame {
+                bind: _,
+                init: Some(init),
+            },
+        ) => Ok(Some(content_of_picture(init)?)),
+        Step::Media(MediaStep::Take { .. }) => content_taken(known, caller, number),
         _ => Ok(None),
     }
 }
 
-/// The samples of the audio data of the variable that the step with this number defines, of the first `before` steps of
-/// a caller. It goes back from what clones or hands on to what was cloned.
-pub fn find_samples(
+/// What the audio data or the frame is of the variable that the step with this number defines, of the first `before`
+/// steps of a caller. It goes back from what clones or hands on to what was cloned.
+pub fn find_content(
     known: &Known,
     steps: &[Step],
     caller: u32,
     before: u32,
     step: u32,
-) -> Result<Option<Samples>, NoMemory>
+) -> Result<Option<Content>, NoMemory>
     ensures { IfOk result
-        (λ o. o ≡ samples_before steps.now (spec.taken_in known.now caller) before step) }
+        (λ o. o ≡ content_before steps.now (spec.taken_in known.now caller) before step) }
 {
     let mut end = before;
     let mut number = step;
@@ -122,7 +161,7 @@ pub fn find_samples(
                 end = number;
                 number = source;
             }
-            None => return own_samples(known, caller, number, defining),
+            None => return own_content(known, caller, number, defining),
         }
     }
     Ok(None)

@@ -2,7 +2,7 @@
 ghost use Rattle.report_reader.specs.Laws.{RunAgain, ReportsDetermineRuns, SoundNames, LegalRunsAreTold, LegalReportsDetermineRuns, FaultIsOne};
 
 use codec_follow::{legal_histories_follow, outputs_are_of_their_kind};
-use media_accounts::samples_are_kept;
+use media_accounts::contents_are_kept;
 use report_lines::lines_are_read_again;
 use run_ranges::legal_runs_fit;
 
@@ -32,7 +32,7 @@ pub fn legal_runs_are_told()
 {
     legal_histories_follow();
     outputs_are_of_their_kind();
-    samples_are_kept();
+    contents_are_kept();
     lines_are_read_again();
     legal_runs_fit();
 }

@@ -1,6 +1,6 @@
 // Reports of runs in which a caller encodes what it took from a decoder, and decodes what it took from the encoder, read back
 // and written again; and texts with a fault at a line that was counted by hand.
-use codec_model::{Call, Entry, Handed, HeldSound, Pair};
+use codec_model::{Call, Entry, Handed, HeldMedium, Pair};
 use report_reader::{ReportFault, read_report};
 use script_types::Script;
 use std::alloc::Global;
@@ -325,14 +325,14 @@ fn each_is_judged(
 }
 
 // What the entry with this number handed to its encoder, if it is an encode that was accepted.
-fn handed_at(trace: &CodecTrace, number: usize) -> Option<(Who, &HeldSound)> {
+fn handed_at(trace: &CodecTrace, number: usize) -> Option<(Who, &HeldMedium)> {
     match trace.entries.get(number) {
         Some(
             Entry::Call {
                 who,
-                call: Call::Encode(Handed::Cloned(sound)),
+                call: Call::Encode(Handed::Cloned(medium)),
             },
-        ) => Some((*who, sound)),
+        ) => Some((*who, medium)),
         _ => None,
     }
 }
@@ -344,11 +344,11 @@ fn hands_the_second(encoder: &CodecTrace) -> bool {
         reference: 2,
     };
     match handed_at(encoder, 2) {
-        Some((who, sound)) => {
+        Some((who, medium)) => {
             handed_at(encoder, 1).is_none()
                 && who == Who { caller: 0, step: 8 }
-                && sound.pair == pair
-                && sound.samples.bytes.as_slice() == [0x81u8, 0x82].as_slice()
+                && medium.pair == pair
+                && medium.bytes.as_slice() == [0x81u8, 0x82].as_slice()
         }
         None => false,
     }
@@ -431,4 +431,125 @@ fn a_transcode_is_read_and_written_again(rt: HostRuntime) -> Result<(), Fail> {
     let alloc = rt.alloc();
     let script = script_of(alloc, FLAC_SCRIPT)?;
     each_is_judged(&rt, alloc, &script, FLAC_REPORT, &rows)
+}
+
+// Two frames are encoded, and each chunk is taken and decoded.
+const FRAMES_SCRIPT: &str =
+    r#"{"codecs":[{"name":"e","kind":"video-encoder"},{"name":"d","kind":"video-decoder"}],
+"callers":[{"name":"a","steps":[
+{"do":"frame","as":"f","init":{"format":"I420","codedWidth":2,"codedHeight":2,"timestamp":0,"data":"010203040506"}},
+{"do":"frame","as":"g","init":{"format":"I420","codedWidth":2,"codedHeight":2,"timestamp":40000,"data":"020304050607"}},
+{"do":"configure","on":"e","config":{"codec":"x-raw-i420","width":2,"height":2}},
+{"do":"configure","on":"d","config":{"codec":"x-raw-i420","codedWidth":2,"codedHeight":2}},
+{"do":"encode","on":"e","data":"f"},
+{"do":"encode","on":"e","data":"g"},
+{"do":"take","on":"e","as":"c"},
+{"do":"decode","on":"d","chunk":"c"},
+{"do":"take","on":"d","as":"w"},
+{"do":"copy","of":"w","size":6},
+{"do":"take","on":"e","as":"k"},
+{"do":"decode","on":"d","chunk":"k"},
+{"do":"take","on":"d","as":"x"},
+{"do":"copy","of":"x","size":6}]}],
+"order":["a","a","a","a","a","a",{"start":"e"},{"done":"e","at":1},{"turn":"e"},{"turn":"e"},
+{"start":"e"},{"done":"e","at":2},{"turn":"e"},{"turn":"e"},{"start":"e"},{"done":"e","at":3},{"turn":"e"},"a","a",
+{"start":"d"},{"done":"d","at":4},{"turn":"d"},{"turn":"d"},{"start":"d"},{"done":"d","at":5},{"turn":"d"},{"turn":"d"},
+"a","a","a","a",{"start":"d"},{"done":"d","at":6},{"turn":"d"},{"turn":"d"},"a","a"]}"#;
+
+const FRAMES_REPORT: &str = "wcrun report 1
+caller a
+0 ok
+1 ok
+2 e.0 ok
+3 d.0 ok
+4 e.1 ok
+5 e.2 ok
+6 e.14 unit 0
+7 d.1 ok
+8 d.10 unit 0
+9 copied 6 0:2,4:1,5:1 010203040506
+10 e.15 unit 1
+11 d.11 ok
+12 d.16 unit 1
+13 copied 6 0:2,4:1,5:1 020304050607
+codec e video-encoder 4
+0 a.2 configure = ok
+1 a.4 encode = ok
+2 a.5 encode = ok
+3 start 0.0
+4 done 0.0 1 ran 0
+5 turn unblock
+6 turn process
+7 start 0.1
+8 done 0.1 2 ran 1
+9 turn dequeue
+  dequeue
+10 turn output
+  output chunk key 0 - 00010203040506
+11 start 0.2
+12 done 0.2 3 ran 1
+13 turn output
+  output chunk delta 40000 - 01010101010101
+14 a.6 take = 0
+15 a.10 take = 1
+codec d video-decoder 4
+0 a.3 configure = ok
+1 a.7 decode = ok
+2 start 0.0
+3 done 0.0 4 ran 0
+4 turn unblock
+5 turn process
+6 start 0.1
+7 done 0.1 5 ran 1
+8 turn dequeue
+  dequeue
+9 turn output
+  output video I420 2 2 0 - 010203040506
+10 a.8 take = 0
+11 a.11 decode = ok
+12 start 0.2
+13 done 0.2 6 ran 1
+14 turn dequeue
+  dequeue
+15 turn output
+  output video I420 2 2 40000 - 020304050607
+16 a.12 take = 1
+pool
+0 a.0 make 0 0
+1 a.1 make 1 1
+2 e.1 clone 0 2
+3 e.2 clone 1 3
+4 e.8 end 0 2 kept
+5 e.12 end 1 3 kept
+6 a.8 make 2 4
+7 a.12 make 3 5
+slots
+0 e.3 acquire encode:x-raw-i420 0
+1 d.2 acquire decode:x-raw-i420 0
+held 4
+end
+";
+
+#[test]
+fn a_transcode_of_frames_is_read_and_written_again(rt: HostRuntime) -> Result<(), Fail> {
+    let rows = [
+        // the report as it is
+        ("end\n", "end\n", None),
+        // an encode of a frame that was not made, and one with no clone
+        ("0 ok\n1 ok\n", "0 TypeError\n1 ok\n", Some(19)),
+        ("2 e.1 clone 0 2", "2 e.3 clone 0 2", Some(19)),
+        // a chunk more than its turn shows
+        ("8 done 0.1 2 ran 1", "8 done 0.1 2 ran 2", Some(31)),
+        // a chunk that carries a config
+        (
+            "  output chunk key 0 - 00010203040506\n",
+            "  output chunk key 0 - 00010203040506\n  config x-raw-i420 1 1 -\n",
+            Some(31),
+        ),
+        // a chunk that was not taken
+        ("10 e.15 unit 1", "10 e:15 none", Some(51)),
+    ];
+    let alloc = rt.alloc();
+    let script = script_of(alloc, FRAMES_SCRIPT)?;
+    each_is_judged(&rt, alloc, &script, FRAMES_REPORT, &rows)
 }

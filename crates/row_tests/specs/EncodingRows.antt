@@ -17,6 +17,7 @@ use Rattle.codec_definitions.specs.declared.unit.Unit as media
 use Rattle.codec_definitions.specs.declared.unit.Unit.TheVariants as unit
 use Rattle.codec_model.specs.declared.entry.Opening.{Opening}
 use Rattle.codec_model.specs.declared.entry.Pair.{Pair}
+use Rattle.codec_model.specs.declared.entry.MediaShape.TheVariants as media_shape
 use Rattle.codec_model.specs.declared.entry.Handed.TheVariants as handed
 use Rattle.codec_model.specs.declared.entry.Outcome.TheVariants as outcome
 use Rattle.codec_model.specs.declared.entry.Call.TheVariants as call
@@ -87,7 +88,7 @@ clone = record { resource = 0; reference = 1 }
 
 abbrev pub entries : List Entry
 entries =
-    entry.Call (step_of 0) (call.Configure pcm_encoder) ∷ entry.Call (step_of 2) (call.Encode (handed.Cloned (record { samples = sound; pair = clone })))
+    entry.Call (step_of 0) (call.Configure pcm_encoder) ∷ entry.Call (step_of 2) (call.Encode (handed.Cloned (record { shape = media_shape.Sound sound.shape; bytes = sound.bytes; pair = clone })))
     ∷ entry.Start 0 0 ∷ entry.Done 0 0 1 (outcome.Ran 0) ∷ entry.Turn ∷ entry.Turn
     ∷ entry.Start 0 1 ∷ entry.Done 0 1 2 (outcome.Ran 1) ∷ entry.Turn ∷ entry.Turn ∷ entry.Call (step_of 4) (call.Take 0) ∷ []
 

@@ -6,7 +6,8 @@ use Rattle.wc_config.specs.declared.config.Config.TheVariants as config
 use Rattle.codec_definitions.specs.declared.unit.Unit as media
 use Rattle.codec_definitions.specs.declared.unit.Unit.TheVariants.{Coded}
 use Rattle.codec_model.specs.declared.entry.Opening.{Opening}
-use Rattle.codec_model.specs.declared.entry.HeldSound.{HeldSound}
+use Rattle.codec_model.specs.declared.entry.HeldMedium.{HeldMedium}
+use Rattle.codec_model.specs.declared.entry.MediaShape.TheVariants as media_shape
 use Rattle.codec_model.specs.declared.entry.Handed.TheVariants as handed
 use Rattle.codec_model.specs.declared.entry.Outcome.TheVariants as outcome
 use Rattle.codec_model.specs.declared.entry.Call.TheVariants as call
@@ -70,9 +71,10 @@ abbrev pub flac : Config
 flac = config.AudioEncoder (record { codec = codes "flac"; rate = 8000; channels = 1; block_size = 16; level = 5; depth = 16 })
 
 -- 32 frames, of which it holds a clone
-abbrev pub silence : HeldSound
+abbrev pub silence : HeldMedium
 silence = record {
-  samples = record { shape = record { format = S16; rate = 8000; channels = 1; frames = 32; timestamp = pos 0 }; bytes = replicate 64 0 };
+  shape = media_shape.Sound (record { format = S16; rate = 8000; channels = 1; frames = 32; timestamp = pos 0 });
+  bytes = replicate 64 0;
   pair = record { resource = 0; reference = 1 };
 }
 

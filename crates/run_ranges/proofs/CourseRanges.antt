@@ -9,17 +9,18 @@ use Rattle.std.proofs.lemmas.List.{append-nil, length-map}
 use Rattle.std.proofs.lemmas.Option.{option_and_then_some}
 use Rattle.std.proofs.lemmas.List.FromFn.{length-range_with_len}
 use Rattle.std.proofs.lemmas.List.Sums.{count_by-le-length}
-use Rattle.wc_base.specs.{declared.media.SoundShape.SoundShape, Options.some_same, declared.who.Who.Who, declared.who.By.By}
+use Rattle.hex.specs.Hex.{IsBytes}
+use Rattle.wc_base.specs.{Options.some_same, declared.who.Who.Who, declared.who.By.By}
 use Rattle.wc_config.specs.{Configs.is_valid, declared.codec.CoderId.CoderId}
 use Rattle.wc_chunk.specs.declared.chunk.Chunk.{Chunk}
-use Rattle.wc_pool.specs.{declared.entry.PoolEntry.PoolEntry, declared.entry.PoolOp.PoolOp, declared.reference.MediaRef.MediaRef, Bag.references_made}
+use Rattle.wc_pool.specs.{declared.entry.PoolEntry.PoolEntry, declared.entry.PoolOp.PoolOp, Bag.references_made}
 use Rattle.coder_api.specs.{Meaning.is_id, declared.slot.SlotEntry.SlotEntry, declared.slot.SlotOp.SlotOp}
 use Rattle.slot_registry.specs.Boxes.{is_out, made_of, out_of, least_free}
 use Rattle.slot_registry.specs.Slots.{SlotsValue, acquire_op, acquire_entry}
 use Rattle.codec_definitions.specs.declared.unit.Unit as output
-use Rattle.codec_model.specs.declared.entry.{Opening.Opening, Pair.Pair, Handed.Handed, Call.Call, Entry.Entry}
+use Rattle.codec_model.specs.declared.entry.{Opening.Opening, Pair.Pair, MediaShape.MediaShape, Handed.Handed, Call.Call, Entry.Entry}
 use Rattle.codec_model.specs.{Control.start_item, Control.may_reclaim, Shown.shown, Shown.outputs_of}
-use Rattle.codec_model.specs.Replay.{State, opening_state, step as legal_step, replay, replay_from, is_configured}
+use Rattle.codec_model.specs.Replay.{State, medium_command, opening_state, step as legal_step, replay, replay_from, is_configured}
 use Rattle.codec_model.specs.Held.{running_pairs, waiting_held, held_in, is_removal, is_done, lets_go, leaves_held, adds_held, HeldStays}
 use Rattle.codec_accounts.specs.{Owed.at, Owed.append_at, Registry.BoxOut, AccountLaws.history_at, AccountLaws.histories_more}
 use Rattle.codec_accounts.specs.ListLaws.{Same, Longer, growth, get_more}
@@ -27,16 +28,16 @@ use Rattle.codec_accounts.specs.Codec.{CodecValue, Holding, new_codec, BoxStep, 
 use Rattle.script_types.specs.declared.script.{CallerItem.CallerItem, CodecItem.CodecItem, OrderItem.OrderItem, ScriptData.ScriptData}
 use Rattle.script_types.specs.declared.steps.{MediaStep.MediaStep, Step.Step}
 use Rattle.report_text.specs.declared.result.StepResult.{StepResult}
-use Rattle.media_variables.specs.Variables.{Medium, Media, Came, Brought, sound_at, handed_by, entries_of, media_came, variables_of}
+use Rattle.media_variables.specs.Variables.{Medium, Media, Came, Brought, Reference, lendable_at, handed_by, entries_of, media_came, variables_of}
 use Rattle.media_variables.specs.Held.{ends_behind, clones_of}
 use Rattle.media_accounts.specs.Accounts.{pool_by}
 use Rattle.trace_text.specs.Follow.{Course, opening_of, steps_of, output_at, chunk_by, chunk_at, chunk_for, Move, Idle, Answer, Advance, Ask, Handle, Receive, take_entry, with_entry, with_media, after_move, turn_on, advance, call_move, encode_of, found_at, handle_move, take_move, media_move, copied_chunk, step_move, next_move, item_move, follow_item, Follows, nothing_yet, order_items}
 use Rattle.history_laws.specs.{Outputs.HoldsOwn, OutputLaws.outputs_are, CountLaws.outputs_each}
 use Rattle.run_ranges.specs.Counts.{all_from, all_at}
-use Rattle.run_ranges.specs.Ranges.{IsMoment, IsConfigWithin, IsChunkWithin, IsShapeWithin, AreWithin}
+use Rattle.run_ranges.specs.Ranges.{IsMoment, IsConfigWithin, IsChunkWithin, AreWithin}
 use Rattle.run_ranges.proofs.{Cases.by_option, Cases.by_default, CodeRanges.CodesAreBytes}
-use Rattle.run_ranges.proofs.UnitRanges.{AreSamplesWithin, IsUnitWithin, judge}
-use Rattle.run_ranges.proofs.MediaRanges.{AreVariables, IsChunkThere, chunk_found, IsRefWithin, IsSoundThere, sound_found, IsCameWithin, IsContentWithin, IsOutputWithin, came_within}
+use Rattle.run_ranges.proofs.UnitRanges.{IsInputWithin, IsUnitWithin, judge}
+use Rattle.run_ranges.proofs.MediaRanges.{AreVariables, IsChunkThere, chunk_found, IsHeldWithin, IsMediumShapeWithin, IsMediumThere, medium_found, IsCameWithin, IsContentWithin, IsOutputWithin, came_within}
 
 -- ---- what stands of a course
 
@@ -44,7 +45,7 @@ use Rattle.run_ranges.proofs.MediaRanges.{AreVariables, IsChunkThere, chunk_foun
 abbrev pub IsOwnCall : Call → Type 0
 IsOwnCall (Call.Configure config) = is_valid config ≡ true → IsConfigWithin config
 IsOwnCall (Call.Decode chunk) = IsChunkWithin chunk
-IsOwnCall (Call.Encode (Handed.Cloned sound)) = AreSamplesWithin sound.samples
+IsOwnCall (Call.Encode (Handed.Cloned medium)) = IsInputWithin (medium_command medium.shape medium.bytes)
 IsOwnCall x = Unit {0}
 
 -- and so is an entry's moment
@@ -124,7 +125,7 @@ either_few : (a b : Bool) (xs ys zs : List Pair) (n : ℕ) → length xs ≤ n �
 either_few a b xs ys zs n x y z = cond_both a xs (cond b ys zs) (λ ps. length ps ≤ n) (λ is. x) (λ is. cond_both b ys zs (λ ps. length ps ≤ n) (λ is. y) (λ is. z))
 
 adds_few : (e : Entry) → length (adds_held e) ≤ 1
-adds_few (Entry.Call who (Call.Encode (Handed.Cloned sound))) = omega arith
+adds_few (Entry.Call who (Call.Encode (Handed.Cloned medium))) = omega arith
 adds_few e = omega arith
 
 replay_few : HeldStays → (h : List Entry) (s t : State) → replay_from h s ≡ Some t → length (held_in t) ≤ length (held_in s) + length h
@@ -268,8 +269,12 @@ contents_within s media made c j (MediaStep.Frame bind (Some init)) within is = 
 contents_within s media made c j x within is = tt
 
 -- what an encode hands over
-handed_own : (number : ℕ) (accepts : Bool) (shape : SoundShape) (held : Option MediaRef) → IsShapeWithin shape → IsRefWithin held → IsOwnCall (Call.Encode (handed_by number accepts shape held))
-handed_own number true shape (Some r) own small = (own, small)
+medium_own : (shape : MediaShape) (bytes : List ℕ) → IsMediumShapeWithin shape → IsBytes bytes → IsInputWithin (medium_command shape bytes)
+medium_own (MediaShape.Sound shape) bytes own small = (own, small)
+medium_own (MediaShape.Image shape) bytes own small = (own, small)
+
+handed_own : (number : ℕ) (accepts : Bool) (shape : MediaShape) (held : Option Reference) → IsMediumShapeWithin shape → IsHeldWithin held → IsOwnCall (Call.Encode (handed_by number accepts shape held))
+handed_own number true shape (Some r) own small = medium_own shape r.bytes own small
 handed_own number false shape (Some r) own small = tt
 handed_own number accepts shape None own small = tt
 
@@ -279,7 +284,7 @@ handed_own number accepts shape None own small = tt
 pub holds_own : (laws : CodesAreBytes) (e : Entry) → IsOwnEntry e → HoldsOwn (judge laws) e
 holds_own laws (Entry.Call who (Call.Configure config)) own = own
 holds_own laws (Entry.Call who (Call.Decode chunk)) own = own
-holds_own laws (Entry.Call who (Call.Encode (Handed.Cloned sound))) own = own
+holds_own laws (Entry.Call who (Call.Encode (Handed.Cloned medium))) own = own
 holds_own laws _ own = tt
 
 -- each output of a history
@@ -303,10 +308,10 @@ media_holds laws s media who (MediaStep.Take on bind kind) v content h =
     let vs = variables_of who.caller v.media.variables in
     by_option (λ o. IsCameWithin o → MoveHolds (take_move who on (codec_at on v.codecs) o)) (media_came v.media.pool who b (MediaStep.Take on bind kind) vs) (λ none. tt) (λ y is fine. fine)
     (came_within s v.media.pool who b (MediaStep.Take on bind kind) vs content (found_own laws on v h) (h.variables who.caller))
-media_holds laws s media who (MediaStep.Encode on sound) v content h =
+media_holds laws s media who (MediaStep.Encode on variable) v content h =
     let vs = variables_of who.caller v.media.variables in
-    by_option (λ o. IsSoundThere o → MoveHolds (call_move who on (option_map (encode_of v.media.pool (codec_at on v.codecs)) o))) (sound_at vs sound.step) (λ none. tt)
-    (λ x is fine. handed_own (references_made v.media.pool) (is_configured (state_of (codec_at on v.codecs)).control) x.shape x.held fine.0 fine.1) (sound_found vs sound.step (h.variables who.caller))
+    by_option (λ o. IsMediumThere o → MoveHolds (call_move who on (option_map (encode_of v.media.pool (codec_at on v.codecs)) o))) (lendable_at vs variable.step) (λ none. tt)
+    (λ x is fine. handed_own (references_made v.media.pool) (is_configured (state_of (codec_at on v.codecs)).control) x.shape x.held fine.0 fine.1) (medium_found vs variable.step (h.variables who.caller))
 media_holds laws s media who x v content h =
     let b : Brought = record { chunk = copied_chunk media (steps_of s who.caller) x; taken = None } in
     let vs = variables_of who.caller v.media.variables in

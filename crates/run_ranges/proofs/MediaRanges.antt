@@ -10,7 +10,8 @@ use Rattle.wc_chunk.specs.declared.chunk.Chunk.{Chunk}
 use Rattle.codec_definitions.specs.declared.unit.Unit as output
 use Rattle.codec_definitions.specs.declared.unit.Unit.TheVariants as unit
 use Rattle.picture_planes.specs.Planes.{picture_size}
-use Rattle.wc_pool.specs.declared.{entry.PoolEntry.PoolEntry, reference.MediaRef.MediaRef}
+use Rattle.wc_pool.specs.declared.entry.PoolEntry.{PoolEntry}
+use Rattle.codec_model.specs.declared.entry.MediaShape.{MediaShape}
 use Rattle.wc_audio.specs.Sound as audio
 use Rattle.wc_audio.specs.Copies as sound
 use Rattle.wc_video.specs.Frames as frames
@@ -20,21 +21,21 @@ use Rattle.script_types.specs.{declared.steps.Step.Step, Names.is_copied}
 use Rattle.script_types.specs.Sound.{is_variable, are_options_of, is_sound_media, most_chunk}
 use Rattle.report_text.specs.declared.result.StepResult.{StepResult}
 use Rattle.media_variables.specs.CameLaws.{EachCame, by_came}
-use Rattle.media_variables.specs.Variables.{Reference, Shape, SoundOf, PictureOf, ChunkOf, Medium, Came, Taken, Brought, medium_at, with_medium, detached, zeros, media_ref, sound_of, frame_of, copy_options, rect_of, layouts_in, copy_chunk, copy_medium, size_of_medium, chunk_in_medium, chunk_of_variable, chunk_medium, sound_in, sound_at, unit_came, media_came}
+use Rattle.media_variables.specs.Variables.{Reference, Shape, SoundOf, PictureOf, ChunkOf, Medium, Came, Taken, Brought, Lendable, medium_at, with_medium, detached, zeros, sound_of, frame_of, copy_options, rect_of, layouts_in, copy_chunk, copy_medium, size_of_medium, chunk_in_medium, chunk_of_variable, chunk_medium, lendable_in, lendable_at, unit_came, media_came}
 use Rattle.media_accounts.specs.Accounts.{step_by, before_step, media_of, variables_by, variables_in, came_in}
 use Rattle.trace_text.specs.Fits.{IsOwnAnswer}
 use Rattle.report_lines.specs.Fits.{FitsResult}
-use Rattle.run_ranges.specs.Ranges.{IsChunkWithin, IsShapeWithin}
+use Rattle.run_ranges.specs.Ranges.{IsChunkWithin, IsShapeWithin, IsPictureWithin}
 use Rattle.run_ranges.proofs.{Cases.by_option, UnitRanges.IsUnitWithin}
 use Rattle.run_ranges.proofs.ByteRanges.{nothing_small, take_small, zeros_small}
 use Rattle.run_ranges.proofs.CopyRanges.{sound_copy_fits, sound_size_fits, chunk_copy_fits, plan_within, frame_copy_fits, frame_size_fits}
 
 -- ---- what a variable holds
 
--- the shape of audio data is within its types, and so is a chunk
+-- the shape of audio data or of a frame is within its types, and so is a chunk
 abbrev pub IsKindWithin : Shape → Type 0
 IsKindWithin (SoundOf shape) = IsShapeWithin shape
-IsKindWithin (PictureOf shape) = Unit {0}
+IsKindWithin (PictureOf shape) = IsPictureWithin shape
 IsKindWithin (ChunkOf chunk) = IsChunkWithin chunk
 
 -- what is held is bytes
@@ -58,7 +59,7 @@ with_within zero m (v ∷ vs) own h = (own, h.1)
 with_within (suc j) m [] own h = (tt, with_within j m [] own tt)
 with_within (suc j) m (v ∷ vs) own h = (h.0, with_within j m vs own h.1)
 
--- ---- the chunk and the audio data of a variable
+-- ---- the chunk, and the audio data or frame, of a variable
 
 abbrev pub IsChunkThere : Option Chunk → Type 0
 IsChunkThere o = IfSome o IsChunkWithin
@@ -71,28 +72,29 @@ pub chunk_found : (made : Option Chunk) (vs : List (Option Medium)) (j : ℕ) �
 chunk_found None vs j own h = chunk_in_variable (medium_at vs j) (medium_within vs j h)
 chunk_found (Some c) vs j own h = own
 
-abbrev pub IsRefWithin : Option MediaRef → Type 0
-IsRefWithin o = IfSome o (λ r. IsBytes r.bytes)
+abbrev pub IsMediumShapeWithin : MediaShape → Type 0
+IsMediumShapeWithin (MediaShape.Sound shape) = IsShapeWithin shape
+IsMediumShapeWithin (MediaShape.Image shape) = IsPictureWithin shape
 
-abbrev pub IsSoundThere : Option audio.Sound → Type 0
-IsSoundThere o = IfSome o (λ x. IsShapeWithin x.shape × IsRefWithin x.held)
+abbrev pub IsMediumThere : Option Lendable → Type 0
+IsMediumThere o = IfSome o (λ x. IsMediumShapeWithin x.shape × IsHeldWithin x.held)
 
-sound_in_variable : (o : Option Medium) → IsVariableWithin o → IsSoundThere (option_and_then sound_in o)
-sound_in_variable None own = tt
-sound_in_variable (Some m) own = elim m.shape as (λ x. IsKindWithin x → IsSoundThere (sound_in (record m { shape = x }))) [ SoundOf shape ↦ λ h. (h, by_option (λ o. IsHeldWithin o → IsRefWithin (option_map media_ref o)) m.held (λ none. tt) (λ r is fine. fine) own.1) | _ ↦ λ h. tt ] own.0
+medium_in_variable : (o : Option Medium) → IsVariableWithin o → IsMediumThere (option_and_then lendable_in o)
+medium_in_variable None own = tt
+medium_in_variable (Some m) own = elim m.shape as (λ x. IsKindWithin x → IsMediumThere (lendable_in (record m { shape = x }))) [ SoundOf shape ↦ λ h. (h, own.1) | PictureOf shape ↦ λ h. (h, own.1) | ChunkOf chunk ↦ λ h. tt ] own.0
 
-pub sound_found : (vs : List (Option Medium)) (j : ℕ) → AreVariables vs → IsSoundThere (sound_at vs j)
-sound_found vs j h = sound_in_variable (medium_at vs j) (medium_within vs j h)
+pub medium_found : (vs : List (Option Medium)) (j : ℕ) → AreVariables vs → IsMediumThere (lendable_at vs j)
+medium_found vs j h = medium_in_variable (medium_at vs j) (medium_within vs j h)
 
 -- ---- what steps leave in variables
 
 abbrev pub IsCameWithin : Option Came → Type 0
 IsCameWithin o = IfSome o (λ y. AreVariables y.variables)
 
--- the content of an init is bytes, and the shape of audio data is within its types
+-- the content of an init is bytes, and its shape is within its types
 abbrev pub IsContentWithin : MediaStep → Type 0
 IsContentWithin (MediaStep.Audio bind (Some init)) = IsShapeWithin init.shape × IsBytes init.content
-IsContentWithin (MediaStep.Frame bind (Some init)) = IsBytes init.content
+IsContentWithin (MediaStep.Frame bind (Some init)) = IsPictureWithin init.shape × IsBytes init.content
 IsContentWithin x = Unit {0}
 
 -- an output that is taken is within its type
@@ -101,7 +103,7 @@ IsOutputWithin o = IfSome o (λ t. IsUnitWithin t.unit)
 
 unit_within : (pool : List PoolEntry) (j : ℕ) (answer : StepResult) (u : output.Unit) (vs : List (Option Medium)) → IsUnitWithin u → AreVariables vs → AreVariables (unit_came pool j answer u vs).variables
 unit_within pool j answer (unit.Sound samples) vs own h = with_within j _ vs ((own.frames, own.timestamp), own.are_bytes) h
-unit_within pool j answer (unit.Image picture) vs own h = with_within j _ vs (tt, own.are_bytes) h
+unit_within pool j answer (unit.Image picture) vs own h = with_within j _ vs ((own.timestamp, own.duration), own.are_bytes) h
 unit_within pool j answer (unit.Coded chunk config) vs own h = with_within j (chunk_medium chunk) vs (own.0, tt) h
 
 there_within : (vs : List (Option Medium)) (j : ℕ) (m : Medium) → AreVariables vs → medium_at vs j ≡ Some m → IsVariableWithin (Some m)
@@ -149,7 +151,7 @@ each_came s pool who b vs own h = record {
   refuses = λ x e. (λ small. h, λ there told few. tt);
   absent = λ x. (λ small. h, λ there told few. tt);
   audio = λ bind i. (λ small. with_within who.step _ vs (small.0, take_small (audio.needed i.shape) i.content small.1) h, λ there told few. tt);
-  frame = λ bind i. (λ small. with_within who.step _ vs (tt, take_small (picture_size i.shape) i.content small) h, λ there told few. tt);
+  frame = λ bind i. (λ small. with_within who.step _ vs (small.0, take_small (picture_size i.shape) i.content small.1) h, λ there told few. tt);
   takes = λ on bind kind t is. (
     λ small. unit_within pool who.step t.answer t.unit vs (subst IsOutputWithin is own) h,
     λ there told few. elim t.unit as (λ u. FitsResult s (unit_came pool who.step t.answer u vs).answer) [ unit.Image picture ↦ subst (FitsTaken s) is told | _ ↦ subst (FitsTaken s) is told ],

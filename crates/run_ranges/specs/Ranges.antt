@@ -4,6 +4,7 @@ use Rattle.std.specs.Prelude.{ℕ, ◌≡◌, ◌<◌, ◌^◌, List, length, Op
 use Rattle.std.specs.List.{AllByRecursion, slice_get}
 use Rattle.std.specs.Int.Signed.{mag}
 use Rattle.hex.specs.Hex.{IsBytes}
+use Rattle.wc_base.specs.declared.media.PictureShape.{PictureShape}
 use Rattle.wc_base.specs.declared.media.SoundShape.{SoundShape}
 use Rattle.wc_config.specs.declared.codec.CoderId.{CoderId}
 use Rattle.wc_config.specs.declared.config.Config.{Config}
@@ -50,14 +51,19 @@ IsChunkWithin c = (mag c.timestamp < 2 ^ 63) × FitsOrAbsent c.duration × IsByt
 abbrev pub IsShapeWithin : SoundShape → Type 0
 IsShapeWithin s = (s.frames < 2 ^ 32) × (mag s.timestamp < 2 ^ 63)
 
+-- a timestamp of 64 bits with its sign, and a duration of 64
+abbrev pub IsPictureWithin : PictureShape → Type 0
+IsPictureWithin s = (mag s.timestamp < 2 ^ 63) × FitsOrAbsent s.duration
+
 -- The script's moments, configs, audio data and chunks are within their types, and those of its chunk files are: chunks, audio
--- data and frames hold bytes, audio data has a timestamp of 64 bits and a number of frames of 32. There are fewer boxes than 2^64.
+-- data and frames hold bytes and have a timestamp of 64 bits, audio data a number of frames of 32, and a frame a duration of 64, if
+-- one. There are fewer boxes than 2^64.
 pub record AreWithin (s : ScriptData) (media : List (List Chunk)) (made : List CoderId) : Type 0 where
   pub moments : (i : ℕ) (x : OrderItem) → slice_get (order_items s) i ≡ Some x → IsMoment x
   pub configs : (c j on : ℕ) (config : Config) → slice_get (steps_of s c) j ≡ Some (step.Configure on config) → IsConfigWithin config
   pub chunks : (c j : ℕ) (x : Step) (chunk : Chunk) → slice_get (steps_of s c) j ≡ Some x → chunk_by media x ≡ Some chunk → IsChunkWithin chunk
   pub sounds : (c j : ℕ) (bind : List ℕ) (init : SoundInit) → slice_get (steps_of s c) j ≡ Some (step.Media (media_step.Audio bind (Some init))) → IsShapeWithin init.shape × IsBytes init.content
-  pub frames : (c j : ℕ) (bind : List ℕ) (init : PictureInit) → slice_get (steps_of s c) j ≡ Some (step.Media (media_step.Frame bind (Some init))) → IsBytes init.content
+  pub frames : (c j : ℕ) (bind : List ℕ) (init : PictureInit) → slice_get (steps_of s c) j ≡ Some (step.Media (media_step.Frame bind (Some init))) → IsPictureWithin init.shape × IsBytes init.content
   pub boxes : length made < 2 ^ 64
 
 -- the lines of a legal run that fits its script, in which nothing is at fault, fit the script

@@ -130,6 +130,7 @@ fn setting_of(role: Role, coding: Coding, config: &Config) -> Result<Setting, No
         Config::AudioDecoder(c) => Ok(Setting::Decoder(c.copy()?)),
         Config::AudioEncoder(c) => Ok(Setting::Encoder(c.copy()?)),
         Config::VideoDecoder(_) => unreachable!(),
+        Config::VideoEncoder(_) => unreachable!(),
         Config::Bad => unreachable!(),
     }
 }

@@ -90,7 +90,12 @@ pub fn unknown_in_step(
                     return no_codec(notes, script, place, at, rule.name());
                 }
             }
-            Wanted::Chunk | Wanted::Audio | Wanted::Medium | Wanted::Copied | Wanted::Promise => {
+            Wanted::Chunk
+            | Wanted::Audio
+            | Wanted::Frame
+            | Wanted::Medium
+            | Wanted::Copied
+            | Wanted::Promise => {
                 if script.find_variable(i, name, j).is_none() {
                     return no_variable(notes, script, place, at, rule.name());
                 }

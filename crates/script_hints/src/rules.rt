@@ -9,9 +9,10 @@ pub enum Wanted {
     Codec,
     Decoder,
     Encoder,
-    /// A variable: a chunk, audio data, audio data or a frame, one of these three, a promise.
+    /// A variable: a chunk, audio data, a frame, one of these two, one of these three, a promise.
     Chunk,
     Audio,
+    Frame,
     Medium,
     Copied,
     Promise,
@@ -68,6 +69,8 @@ pub enum Form {
     Decode,
     Make,
     Encode,
+    EncodeAudio,
+    EncodeFrame,
     Flush,
     Look,
     On,
@@ -109,7 +112,7 @@ const ITEM: [Rule; 5] = [
     Rule("at", Wanted::Natural, Need::May),
 ];
 
-const CONFIG: [Rule; 9] = [
+const CONFIG: [Rule; 12] = [
     Rule("codec", Wanted::Text, Need::May),
     Rule("sampleRate", Wanted::Integer, Need::May),
     Rule("numberOfChannels", Wanted::Integer, Need::May),
@@ -119,6 +122,9 @@ const CONFIG: [Rule; 9] = [
     Rule("codedHeight", Wanted::Integer, Need::May),
     Rule("displayAspectWidth", Wanted::Integer, Need::May),
     Rule("displayAspectHeight", Wanted::Integer, Need::May),
+    Rule("width", Wanted::Integer, Need::May),
+    Rule("height", Wanted::Integer, Need::May),
+    Rule("keyInterval", Wanted::Integer, Need::May),
 ];
 
 const FLAC: [Rule; 3] = [
@@ -185,7 +191,17 @@ const MAKE: [Rule; 2] = [
 
 const ENCODE: [Rule; 2] = [
     Rule("on", Wanted::Encoder, Need::Must),
+    Rule("data", Wanted::Medium, Need::Must),
+];
+
+const ENCODE_AUDIO: [Rule; 2] = [
+    Rule("on", Wanted::Encoder, Need::Must),
     Rule("data", Wanted::Audio, Need::Must),
+];
+
+const ENCODE_FRAME: [Rule; 2] = [
+    Rule("on", Wanted::Encoder, Need::Must),
+    Rule("data", Wanted::Frame, Need::Must),
 ];
 
 const FLUSH_OR_TAKE: [Rule; 2] = [
@@ -233,6 +249,8 @@ pub fn rules_of(form: Form) -> &'static [Rule] {
         Form::Decode => &DECODE,
         Form::Make => &MAKE,
         Form::Encode => &ENCODE,
+        Form::EncodeAudio => &ENCODE_AUDIO,
+        Form::EncodeFrame => &ENCODE_FRAME,
         Form::Flush | Form::Take => &FLUSH_OR_TAKE,
         Form::Look => &LOOK,
         Form::On => &ON,
@@ -277,10 +295,11 @@ pub fn words_of(wanted: Wanted) -> &'static str {
         Wanted::Encoder => "the name of an encoder",
         Wanted::Chunk => "the name of a chunk",
         Wanted::Audio => "the name of audio data",
+        Wanted::Frame => "the name of a frame",
         Wanted::Medium => "the name of audio data or of a frame",
         Wanted::Copied => "the name of audio data, of a frame or of a chunk",
         Wanted::Promise => "the name of a promise",
-        Wanted::Kind => "audio-decoder, audio-encoder or video-decoder",
+        Wanted::Kind => "audio-decoder, audio-encoder, video-decoder or video-encoder",
         Wanted::Saturation => "a number from 1 to 64",
         Wanted::Size => "a number up to 16777216",
         Wanted::Text => "a text",

@@ -123,7 +123,7 @@ impl<'t> Script<'t> {
         match self.kind_of(name) {
             Some(b"audio-decoder") => Held::Audio,
             Some(b"video-decoder") => Held::Frame,
-            Some(b"audio-encoder") => Held::Chunk,
+            Some(b"audio-encoder" | b"video-encoder") => Held::Chunk,
             _ => Held::Unknown,
         }
     }
@@ -164,8 +164,23 @@ impl<'t> Script<'t> {
         Held::Unknown
     }
 
+    // What the encode that begins here has, by its codec.
+    fn encode_form(&self, step: usize) -> Form {
+        let Some(codec) = self.text_of(step, b"on") else {
+            return Form::Encode;
+        };
+        match self.kind_of(codec) {
+            Some(b"audio-encoder") => Form::EncodeAudio,
+            Some(b"video-encoder") => Form::EncodeFrame,
+            _ => Form::Encode,
+        }
+    }
+
     /// What the step that begins here has.
     pub fn form_of(&self, step: usize) -> Option<Form> {
-        form_of_word(self.text_of(step, b"do")?)
+        match form_of_word(self.text_of(step, b"do")?)? {
+            Form::Encode => Some(self.encode_form(step)),
+            form => Some(form),
+        }
     }
 }

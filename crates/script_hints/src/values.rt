@@ -71,7 +71,7 @@ fn fits(held: Held, wanted: Wanted) -> bool {
     match held {
         Held::Chunk => matches!(wanted, Wanted::Chunk | Wanted::Copied),
         Held::Audio => matches!(wanted, Wanted::Audio | Wanted::Medium | Wanted::Copied),
-        Held::Frame => matches!(wanted, Wanted::Medium | Wanted::Copied),
+        Held::Frame => matches!(wanted, Wanted::Frame | Wanted::Medium | Wanted::Copied),
         Held::Promise => wanted == Wanted::Promise,
         Held::Unknown => true,
     }
@@ -91,7 +91,7 @@ fn is_variable(script: &Script<'_>, owner: Owner, name: &[u8], wanted: Wanted) -
 // Whether a name is that of a codec that decodes, or that does not, or of none.
 fn is_codec(script: &Script<'_>, name: &[u8], decodes: bool) -> bool {
     match script.kind_of(name) {
-        Some(kind) => (kind != b"audio-encoder".as_slice()) == decodes,
+        Some(kind) => !matches!(kind, b"audio-encoder" | b"video-encoder") == decodes,
         None => true,
     }
 }
@@ -109,7 +109,10 @@ fn is_right_name(script: &Script<'_>, owner: Owner, name: &[u8], wanted: Wanted)
 }
 
 fn is_kind(text: &[u8]) -> bool {
-    matches!(text, b"audio-decoder" | b"audio-encoder" | b"video-decoder")
+    matches!(
+        text,
+        b"audio-decoder" | b"audio-encoder" | b"video-decoder" | b"video-encoder"
+    )
 }
 
 /// Whether the value that begins here may stand where this is wanted. A name that names nothing may.

@@ -6,7 +6,7 @@ use Rattle.wc_config.specs.declared.kind.Kind.{Kind}
 use Rattle.chunk_files.specs.declared.fault.Stop.{Stop}
 use Rattle.script_types.specs.declared.{fault.Wrong.Wrong, found.FoundVariable.FoundVariable, script.CodecItem.CodecItem, steps.Step.Step, steps.MediaStep.MediaStep, steps.Variable.Variable, steps.VariableKind.VariableKind, options.Options.Options}
 use Rattle.script_types.specs.Names.{outputs_of, is_copied, is_medium}
-use Rattle.script_types.specs.Sound.{encodes, gives, is_variable, is_free, are_options_of, is_sound_media, bytes_of_media, bytes_of_sound, bytes_of_picture}
+use Rattle.script_types.specs.Sound.{gives, is_variable, is_free, are_options_of, is_sound_media, bytes_of_media, bytes_of_sound, bytes_of_picture}
 use Rattle.script_steps.specs.Members.{and_then, known, name_in, object_in}
 use Rattle.script_steps.specs.{Media.data_of_init, Media.data_of_step, Media.sound_of, Media.picture_of, declared.words.StepWord.StepWord, declared.words.MediaWord.MediaWord}
 use Rattle.script_steps.specs.{declared.references.Needed.Needed, Words.data_of_word, Words.byte_count}
@@ -14,7 +14,7 @@ use Rattle.script_steps.specs.References.{is_right, unused, variable_of, variabl
 use Rattle.script_steps.specs.MediaSteps.{size_in, options_in, media_by}
 use Rattle.script_steps.specs.Chains.{all_true}
 use Rattle.script_steps.specs.NameLaws.{variable_is_right}
-use Rattle.script_steps.proofs.ReferenceLaws.{by_part, made, new_name, variable_sound, bound_on_sound, given_to_sound, bound_from_sound}
+use Rattle.script_steps.proofs.ReferenceLaws.{by_part, made, new_name, variable_sound, bound_on_sound, encoded_sound, bound_from_sound}
 use Rattle.script_steps.proofs.SourceLaws.{sound_bytes, picture_bytes, step_data}
 
 pub record SoundMedia (codecs : List CodecItem) (before : List Step) (d : Data) (w : MediaWord) (s : MediaStep) : Type 0 where
@@ -65,7 +65,7 @@ of_options codecs before d w needed of make copied sound bytes =
 pub media_sound : (codecs : List CodecItem) (before : List Step) (d : Data) (w : MediaWord) → IfOk (media_by codecs before d w) (SoundMedia codecs before d w)
 media_sound codecs before d MediaWord.Audio = of_init codecs before d MediaWord.Audio sound_of MediaStep.Audio bytes_of_sound refl (λ bind init. refl) (λ bind init. refl) sound_bytes
 media_sound codecs before d MediaWord.Frame = of_init codecs before d MediaWord.Frame picture_of MediaStep.Frame bytes_of_picture refl (λ bind init. refl) (λ bind init. refl) picture_bytes
-media_sound codecs before d MediaWord.Encode = of_part codecs before d MediaWord.Encode _ _ (given_to_sound encodes (codes "data") Needed.Audio codecs before d) (λ g. omega arith)
+media_sound codecs before d MediaWord.Encode = of_part codecs before d MediaWord.Encode _ _ (encoded_sound codecs before d) (λ g. omega arith)
 media_sound codecs before d MediaWord.Take =
     made (bound_on codecs before d) _ _ _ (bound_on_sound codecs before d) (λ b s. record { sound = s (gives (outputs_of b.0.kind)) (gives_own b.0.kind); bytes = omega arith })
 media_sound codecs before d MediaWord.Clone = of_part codecs before d MediaWord.Clone _ _ (bound_from_sound before d) (λ b. omega arith)

@@ -1,15 +1,15 @@
 -- What is known of the references of a step that was read.
-use Rattle.std.proofs.Common.{◌≡◌, ℕ, codes, Bool, true, ◌&&◌, List, Result, Ok, Err, IfOk, refl, ◌∙◌}
+use Rattle.std.proofs.Common.{◌≡◌, ℕ, codes, Bool, true, ◌&&◌, List, Option, Some, None, Result, Ok, Err, IfOk, refl, ap, sym, subst, ◌∙◌, arith}
 use Rattle.serde_json.specs.Data.{Data}
 use Rattle.wc_config.specs.declared.kind.Kind.{Kind}
-use Rattle.script_types.specs.declared.{script.CodecItem.CodecItem, steps.Step.Step}
+use Rattle.script_types.specs.declared.{script.CodecItem.CodecItem, steps.Step.Step, steps.VariableKind.VariableKind, found.FoundCodec.FoundCodec}
 use Rattle.chunk_files.specs.declared.fault.Stop.{Stop}
-use Rattle.script_types.specs.{declared.fault.Wrong.Wrong, Names.codec_named, Names.is_medium}
-use Rattle.script_types.specs.Sound.{is_codec, any_kind, is_variable, is_free}
+use Rattle.script_types.specs.{declared.fault.Wrong.Wrong, Names.codec_named, Names.variable_named, Names.is_medium}
+use Rattle.script_types.specs.Sound.{encodes, takes, is_codec, any_kind, is_found, is_variable, is_free}
 use Rattle.script_steps.specs.Members.{and_then, known, name_in}
-use Rattle.script_steps.specs.{declared.references.Needed.Needed, Chains.all_true}
-use Rattle.script_steps.specs.References.{is_right, unused, codec_if, variable_if, variable_in, on_of, bound_on, given_to, bound_from}
-use Rattle.script_steps.specs.NameLaws.{name_is_name, name_is_free, codec_is_there, codec_is_right, variable_is_right}
+use Rattle.script_steps.specs.{declared.references.Needed.Needed, Chains.all_true, Chains.known_some}
+use Rattle.script_steps.specs.References.{is_right, unused, codec_if, variable_if, variable_in, on_of, bound_on, given_to, encoded_by, encoded_by_kind, encoded_data, bound_from}
+use Rattle.script_steps.specs.NameLaws.{name_is_name, name_is_free, IsThere, codec_is_there, codec_is_right, codec_is_of, variable_is_right, is_there}
 
 -- what holds of all that the rest may give, whatever the first part gives
 pub by_part : {A B : Type 0} → (r : Result A (Stop Wrong)) (f : A → Result B (Stop Wrong)) (P : B → Type 0) → ((a : A) → r ≡ Ok a → IfOk (f a) P) → IfOk (and_then r f) P
@@ -44,6 +44,23 @@ given_to_sound right key kind codecs before d =
     by_part (name_in (codes "on") d) _ _ (λ on n. by_part (name_in key d) _ _ (λ name m. by_part (codec_if right codecs on) _ _ (λ maybe_codec c.
     by_part (variable_if kind before name) _ _ (λ maybe v. by_part (known maybe_codec) _ _ (λ codec k. by_part (known maybe) _ _ (λ found l.
     all_true _ _ (codec_is_right codecs right on maybe_codec codec c k) (variable_is_right before kind name maybe found v l).variable))))))
+
+-- an encoder takes what it needs, and that is a medium
+takes_its : (k : Kind) (v : VariableKind) → encodes k ≡ true → is_right (encoded_by_kind k) v ≡ true → takes v k ≡ true
+takes_its k v e h = grind (arith, e, h)
+
+its_medium : (k : Kind) (v : VariableKind) → is_right (encoded_by_kind k) v ≡ true → is_medium v ≡ true
+its_medium k v h = grind (arith, h)
+
+pub encoded_sound : (codecs : List CodecItem) (before : List Step) (d : Data)
+    → IfOk (encoded_data codecs before d) (λ g. (is_codec codecs (takes g.1.kind) g.0 && is_variable before is_medium g.1) ≡ true)
+encoded_sound codecs before d =
+    by_part (name_in (codes "on") d) _ _ (λ on n. by_part (name_in (codes "data") d) _ _ (λ name m. by_part (codec_if encodes codecs on) _ _ (λ maybe_codec c.
+    by_part (variable_if (encoded_by maybe_codec) before name) _ _ (λ maybe v. by_part (known maybe_codec) _ _ (λ codec k. by_part (known maybe) _ _ (λ found l.
+    let there : IsThere before (is_right (encoded_by maybe_codec)) name found = variable_is_right before (encoded_by maybe_codec) name maybe found v l in
+    let right : is_right (encoded_by_kind codec.kind) found.kind ≡ true = subst (λ (o : Option FoundCodec). is_right (encoded_by o) found.kind ≡ true) (known_some maybe_codec codec k) there.kind in
+    let of = codec_is_of codecs encodes (takes found.kind) on maybe_codec codec c k in
+    all_true _ _ (of.1 ∙ takes_its codec.kind found.kind of.0 right) (is_there before is_medium name found there.found (its_medium codec.kind found.kind right))))))))
 
 pub bound_from_sound : (before : List Step) (d : Data) → IfOk (bound_from before d) (λ b. (is_variable before is_medium b.0 && is_free before b.1) ≡ true)
 bound_from_sound before d =

@@ -14,18 +14,17 @@ use Rattle.wc_config.specs.declared.kind.Kind.{Kind}
 use Rattle.chunk_files.specs.declared.fault.Stop.{Stop}
 use Rattle.script_types.specs.declared.{fault.Wrong.Wrong, script.CodecItem.CodecItem, steps.Step.Step, steps.MediaStep.MediaStep}
 use Rattle.script_types.specs.Names.{codec_named, decodes}
-use Rattle.script_types.specs.Sound.{encodes}
 use Rattle.script_steps.specs.Members.{and_then, needed as there, known, name_in, object_in, text_in, within, is_u32, is_integer, natural_of, signed_of, is_timestamp, is_duration, u32_of, timestamp_of, duration_of, decoded, hex_of, required, defaulted, optional, hex_if_there, word_of}
-use Rattle.script_steps.specs.ConfigRead.{codec_in, rate_in, channels_in, audio_decoder_with, flac_in, flac_number, audio_encoder_with, pixels_in, video_decoder_with, config_of}
+use Rattle.script_steps.specs.ConfigRead.{codec_in, rate_in, channels_in, audio_decoder_with, flac_in, flac_number, audio_encoder_with, pixels_in, video_decoder_with, size_in, key_interval_in, video_encoder_with, config_of}
 use Rattle.script_steps.specs.Media.{data_value, timestamp_in, duration_in, content_in, key_of, chunk_with, chunk_of, sample_format_of, sound_with, sound_of, picture_format_of, picture_with, picture_of}
 use Rattle.script_steps.specs.Sources.{has, index_in, made_of, source_by, source_of}
 use Rattle.script_steps.specs.{declared.source.SourceWords.SourceWords, declared.words.StepWord.StepWord, declared.words.MediaWord.MediaWord, declared.references.Needed.Needed}
-use Rattle.script_steps.specs.References.{unused, variable_if, bound_on, given_to, bound_from, on_of, variable_in}
+use Rattle.script_steps.specs.References.{unused, variable_if, bound_on, given_to, encoded_data, bound_from, on_of, variable_in}
 use Rattle.script_steps.specs.MediaSteps.{size_in, options_in, media_by}
 use Rattle.script_steps.specs.Steps.{numbered, no_file, promise_in, step_by}
 use Rattle.script_steps.specs.Words.{word_in}
 use Rattle.script_steps.specs.Chains.{chain}
-use Rattle.script_steps.specs.Within.{Is32Bits, HasSmallNumbers, IsSmallChunk, IsSmallSound, HoldsBytes, IsSmallSource, IsSmallMedia, IsStepWithin, StepsAreWithin}
+use Rattle.script_steps.specs.Within.{Is32Bits, HasSmallNumbers, IsSmallChunk, IsSmallSound, IsSmallPicture, IsSmallSource, IsSmallMedia, IsStepWithin, StepsAreWithin}
 use Rattle.script_steps.proofs.ReferenceLaws.{by_part, made}
 
 -- ---- single members
@@ -136,6 +135,16 @@ video_small None w h x y p q = tt
 pixels_small : (key : List ℕ) (d : Data) → IfOk (pixels_in key d) (λ r. IfSome r (λ m. IfSome m Is32Bits))
 pixels_small key d = optional_if u32_of Is32Bits (get key d) u32_small
 
+video_encoder_small : (codec : Option (List ℕ)) (width height key_interval : Option ℕ) → IfSome width Is32Bits → IfSome height Is32Bits → IfSome key_interval Is32Bits → HasSmallNumbers (video_encoder_with codec width height key_interval)
+video_encoder_small (Some c) (Some w) (Some h) (Some n) p q r = (p, q, r)
+video_encoder_small (Some c) (Some w) (Some h) None p q r = tt
+video_encoder_small (Some c) (Some w) None n p q r = tt
+video_encoder_small (Some c) None h n p q r = tt
+video_encoder_small None w h n p q r = tt
+
+size_small : (key : List ℕ) (d : Data) → IfOk (size_in key d) (λ r. IfSome r Is32Bits)
+size_small key d = required_if u32_of Is32Bits (get key d) u32_small
+
 config_small : (k : Kind) (d : Data) → IfOk (config_of k d) HasSmallNumbers
 config_small Kind.AudioDecoder d =
     by_part (codec_in d) _ _ (λ codec a. by_part (rate_in d) _ _ (λ rate r. by_part (channels_in d) _ _ (λ channels c. by_part (hex_if_there (get (codes "description") d)) _ _ (λ description e.
@@ -150,6 +159,11 @@ config_small Kind.VideoDecoder d =
     by_part (codec_in d) _ _ (λ codec a. by_part (pixels_in (codes "codedWidth") d) _ _ (λ width b. by_part (pixels_in (codes "codedHeight") d) _ _ (λ height c.
     by_part (pixels_in (codes "displayAspectWidth") d) _ _ (λ aspect_width e. by_part (pixels_in (codes "displayAspectHeight") d) _ _ (λ aspect_height f.
     video_small codec width height aspect_width aspect_height (of _ (pixels_in (codes "codedWidth") d) width b (pixels_small (codes "codedWidth") d)) (of _ (pixels_in (codes "codedHeight") d) height c (pixels_small (codes "codedHeight") d)))))))
+config_small Kind.VideoEncoder d =
+    by_part (codec_in d) _ _ (λ codec a. by_part (size_in (codes "width") d) _ _ (λ width b. by_part (size_in (codes "height") d) _ _ (λ height c.
+    by_part (key_interval_in d) _ _ (λ key_interval e.
+    video_encoder_small codec width height key_interval (of _ (size_in (codes "width") d) width b (size_small (codes "width") d)) (of _ (size_in (codes "height") d) height c (size_small (codes "height") d))
+    (of _ (key_interval_in d) key_interval e (defaulted_if 0 u32_of Is32Bits (get (codes "keyInterval") d) (omega arith) u32_small))))))
 
 -- ---- inits
 
@@ -184,20 +198,21 @@ sound_small d =
     sound_made format rate frames channels timestamp content (of _ (required u32_of (get (codes "numberOfFrames") d)) frames n (required_if u32_of Is32Bits (get (codes "numberOfFrames") d) u32_small))
     (of _ (timestamp_in d) timestamp t (timestamp_small d)) (of _ (content_in d) content b (content_small d))))))))
 
-picture_made : (format : Option PictureFormat) (width height : Option ℕ) (t : Option ℤ) (duration : Option (Option ℕ)) (content : Option (List ℕ)) → IfSome content IsBytes → IfSome (picture_with format width height t duration content) HoldsBytes
-picture_made (Some f) (Some w) (Some h) (Some t) (Some u) (Some b) k = k
-picture_made (Some f) (Some w) (Some h) (Some t) (Some u) None k = tt
-picture_made (Some f) (Some w) (Some h) (Some t) None b k = tt
-picture_made (Some f) (Some w) (Some h) None u b k = tt
-picture_made (Some f) (Some w) None t u b k = tt
-picture_made (Some f) None h t u b k = tt
-picture_made None w h t u b k = tt
+picture_made : (format : Option PictureFormat) (width height : Option ℕ) (t : Option ℤ) (duration : Option (Option ℕ)) (content : Option (List ℕ)) → IfSome t (λ z. mag z < 2 ^ 63) → IfSome duration (λ m. IfSome m (λ n. n < 2 ^ 64)) → IfSome content IsBytes
+    → IfSome (picture_with format width height t duration content) IsSmallPicture
+picture_made (Some f) (Some w) (Some h) (Some t) (Some u) (Some b) p q k = record { timestamp = p; duration = q; content = k }
+picture_made (Some f) (Some w) (Some h) (Some t) (Some u) None p q k = tt
+picture_made (Some f) (Some w) (Some h) (Some t) None b p q k = tt
+picture_made (Some f) (Some w) (Some h) None u b p q k = tt
+picture_made (Some f) (Some w) None t u b p q k = tt
+picture_made (Some f) None h t u b p q k = tt
+picture_made None w h t u b p q k = tt
 
-picture_small : (d : Data) → IfOk (picture_of d) (λ o. IfSome o HoldsBytes)
+picture_small : (d : Data) → IfOk (picture_of d) (λ o. IfSome o IsSmallPicture)
 picture_small d =
     by_part (required (word_of picture_format_of) (get (codes "format") d)) _ _ (λ format f. by_part (required u32_of (get (codes "codedWidth") d)) _ _ (λ width w.
     by_part (required u32_of (get (codes "codedHeight") d)) _ _ (λ height h. by_part (timestamp_in d) _ _ (λ timestamp t. by_part (duration_in d) _ _ (λ duration l. by_part (content_in d) _ _ (λ content b.
-    picture_made format width height timestamp duration content (of _ (content_in d) content b (content_small d))))))))
+    picture_made format width height timestamp duration content (of _ (timestamp_in d) timestamp t (timestamp_small d)) (of _ (duration_in d) duration l (duration_small d)) (of _ (content_in d) content b (content_small d))))))))
 
 -- ---- steps
 
@@ -221,8 +236,8 @@ media_small codecs before d MediaWord.Audio =
     IfOk-at_ok (λ x. IfSome x IsSmallSound) i (sound_small object)))))
 media_small codecs before d MediaWord.Frame =
     by_part (name_in (codes "as") d) _ _ (λ name n. by_part (object_in (codes "init") d) _ _ (λ object o. by_part (picture_of object) _ _ (λ init i. by_part (unused before name) _ _ (λ bind u.
-    IfOk-at_ok (λ x. IfSome x HoldsBytes) i (picture_small object)))))
-media_small codecs before d MediaWord.Encode = free_media (given_to encodes (codes "data") Needed.Audio codecs before d) _ (λ g. tt)
+    IfOk-at_ok (λ x. IfSome x IsSmallPicture) i (picture_small object)))))
+media_small codecs before d MediaWord.Encode = free_media (encoded_data codecs before d) _ (λ g. tt)
 media_small codecs before d MediaWord.Take = free_media (bound_on codecs before d) _ (λ b. tt)
 media_small codecs before d MediaWord.Clone = free_media (bound_from before d) _ (λ b. tt)
 media_small codecs before d MediaWord.Transfer = free_media (bound_from before d) _ (λ b. tt)

@@ -1,5 +1,5 @@
 -- The config that an object spells, by the codec's kind (W3C WebCodecs, AudioDecoderConfig, AudioEncoderConfig,
--- VideoDecoderConfig, and the FLAC registration's FlacEncoderConfig; `bitsPerSample` is our own).
+-- VideoDecoderConfig, VideoEncoderConfig, and the FLAC registration's FlacEncoderConfig; `bitsPerSample` and `keyInterval` are our own).
 use Rattle.std.specs.Prelude.{ℕ, List, Option, Some, option_and_then, Result, Ok, codes}
 use Rattle.serde_json.specs.Data.{Data}
 use Rattle.serde_json.specs.Find.{get}
@@ -85,7 +85,25 @@ video_decoder_of d =
     and_then (pixels_in (codes "displayAspectHeight") d) (λ aspect_height.
     Ok (video_decoder_with codec width height aspect_width aspect_height))))))
 
+abbrev pub video_encoder_with : Option (List ℕ) → Option ℕ → Option ℕ → Option ℕ → Config
+video_encoder_with (Some codec) (Some width) (Some height) (Some key_interval) =
+    config.VideoEncoder (record { codec = codec; width = width; height = height; key_interval = key_interval })
+video_encoder_with _ _ _ _ = config.Bad
+
+-- a size in pixels, and the key interval, which may be absent
+abbrev pub size_in : List ℕ → Data → Result (Option ℕ) (Stop Wrong)
+size_in key d = required u32_of (get key d)
+
+abbrev pub key_interval_in : Data → Result (Option ℕ) (Stop Wrong)
+key_interval_in d = defaulted 0 u32_of (get (codes "keyInterval") d)
+
+abbrev pub video_encoder_of : Data → Result Config (Stop Wrong)
+video_encoder_of d =
+    and_then (codec_in d) (λ codec. and_then (size_in (codes "width") d) (λ width. and_then (size_in (codes "height") d) (λ height.
+    and_then (key_interval_in d) (λ key_interval. Ok (video_encoder_with codec width height key_interval)))))
+
 abbrev pub config_of : Kind → Data → Result Config (Stop Wrong)
 config_of kind.AudioDecoder d = audio_decoder_of d
 config_of kind.AudioEncoder d = audio_encoder_of d
 config_of kind.VideoDecoder d = video_decoder_of d
+config_of kind.VideoEncoder d = video_encoder_of d

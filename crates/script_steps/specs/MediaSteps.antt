@@ -10,7 +10,7 @@ use Rattle.script_types.specs.declared.steps.Step.{Step}
 use Rattle.script_types.specs.declared.steps.MediaStep.{MediaStep}
 use Rattle.script_types.specs.declared.steps.MediaStep.TheVariants as media
 use Rattle.script_types.specs.Names.{outputs_of}
-use Rattle.script_types.specs.Sound.{most_chunk, encodes}
+use Rattle.script_types.specs.Sound.{most_chunk}
 use Rattle.chunk_files.specs.declared.fault.Stop.{Stop}
 use Rattle.script_types.specs.declared.fault.Wrong.{Wrong}
 use Rattle.script_steps.specs.Members.{and_then, needed as there, known, name_in, object_in, object_if_there, natural_of}
@@ -19,7 +19,7 @@ use Rattle.script_steps.specs.CopyOptions.{options_for}
 use Rattle.script_steps.specs.declared.words.MediaWord.{MediaWord}
 use Rattle.script_steps.specs.declared.words.MediaWord.TheVariants as medium
 use Rattle.script_steps.specs.declared.references.Needed.TheVariants as needed
-use Rattle.script_steps.specs.References.{unused, variable_if, variable_of, variable_in, bound_on, given_to, bound_from}
+use Rattle.script_steps.specs.References.{unused, variable_if, variable_of, variable_in, bound_on, encoded_data, bound_from}
 
 abbrev pub audio_of : List Step → Data → Result MediaStep (Stop Wrong)
 audio_of before d =
@@ -32,7 +32,7 @@ frame_of before d =
     and_then (picture_of object) (λ init. and_then (unused before name) (λ bind. Ok (media.Frame bind init)))))
 
 abbrev pub encode_of : List CodecItem → List Step → Data → Result MediaStep (Stop Wrong)
-encode_of codecs before d = and_then (given_to encodes (codes "data") needed.Audio codecs before d) (λ g. Ok (media.Encode g.0 g.1))
+encode_of codecs before d = and_then (encoded_data codecs before d) (λ g. Ok (media.Encode g.0 g.1))
 
 abbrev pub take_of : List CodecItem → List Step → Data → Result MediaStep (Stop Wrong)
 take_of codecs before d = and_then (bound_on codecs before d) (λ b. Ok (media.Take b.0.number b.1 (outputs_of b.0.kind)))

@@ -72,6 +72,13 @@ codec_is_right codecs right name m c h k =
     let e = expected_right (λ f. right f.kind) (codec_named codecs name) m c h k in
     codec_from codecs right _ c e.0 ∙ e.1
 
+-- a codec of the kind that is needed, by another test of its kind
+pub codec_is_of : (codecs : List CodecItem) (right other : Kind → Bool) (name : List ℕ) (m : Option FoundCodec) (c : FoundCodec)
+    → codec_if right codecs name ≡ Ok m → known m ≡ Ok c → (right c.kind ≡ true) × (is_codec codecs other c.number ≡ other c.kind)
+codec_is_of codecs right other name m c h k =
+    let e = expected_right (λ f. right f.kind) (codec_named codecs name) m c h k in
+    (e.1, codec_from codecs other _ c e.0)
+
 -- ---- variables
 
 same : (k : VariableKind) → same_kind k k ≡ true
@@ -85,12 +92,17 @@ there : (before : List Step) (right : VariableKind → Bool) (name : List ℕ) (
 there before right name f o h r =
     rw h (all_true _ _ (all_true (f.step == f.step) (same_kind f.kind f.kind) (eq-eqb f.step f.step refl) (same f.kind)) r)
 
+-- a variable that was found, by another test of its kind
+pub is_there : (before : List Step) (right : VariableKind → Bool) (name : List ℕ) (f : FoundVariable) → variable_named before name ≡ Some f → right f.kind ≡ true → is_variable before right (variable_of name f) ≡ true
+is_there before right name f h r = there before right name f (variable_named before name) h r
+
 pub record IsThere (before : List Step) (right : VariableKind → Bool) (name : List ℕ) (f : FoundVariable) : Type 0 where
   pub variable : is_variable before right (variable_of name f) ≡ true
   pub kind : right f.kind ≡ true
+  pub found : variable_named before name ≡ Some f
 
 pub variable_is_right : (before : List Step) (kind : Needed) (name : List ℕ) (m : Option FoundVariable) (f : FoundVariable)
     → variable_if kind before name ≡ Ok m → known m ≡ Ok f → IsThere before (is_right kind) name f
 variable_is_right before kind name m f h k =
     let e = expected_right (λ v. is_right kind v.kind) (variable_named before name) m f h k in
-    record { variable = there before (is_right kind) name f (variable_named before name) e.0 e.1; kind = e.1 }
+    record { variable = there before (is_right kind) name f (variable_named before name) e.0 e.1; kind = e.1; found = e.0 }

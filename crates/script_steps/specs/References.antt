@@ -1,14 +1,16 @@
 -- What the names in a step name, and the new name that it may give.
-use Rattle.std.specs.Prelude.{ℕ, Bool, List, codes, if◌then◌else◌, Option, Result, Ok, Err}
+use Rattle.std.specs.Prelude.{ℕ, Bool, List, codes, if◌then◌else◌, Option, Some, None, Result, Ok, Err}
 use Rattle.serde_json.specs.Data.{Data}
 use Rattle.wc_config.specs.declared.kind.Kind.{Kind}
+use Rattle.wc_config.specs.declared.kind.Kind.TheVariants as kinds
 use Rattle.script_types.specs.declared.script.CodecItem.{CodecItem}
 use Rattle.script_types.specs.declared.found.FoundCodec.{FoundCodec}
 use Rattle.script_types.specs.declared.found.FoundVariable.{FoundVariable}
 use Rattle.script_types.specs.declared.steps.Step.{Step}
 use Rattle.script_types.specs.declared.steps.Variable.{Variable}
 use Rattle.script_types.specs.declared.steps.VariableKind.{VariableKind}
-use Rattle.script_types.specs.Names.{codec_named, variable_named, is_variable_name, is_chunk, is_audio, is_medium, is_copied, is_promise}
+use Rattle.script_types.specs.Names.{codec_named, variable_named, is_variable_name, is_chunk, is_audio, is_frame, is_medium, is_copied, is_promise}
+use Rattle.script_types.specs.Sound.{encodes}
 use Rattle.chunk_files.specs.declared.fault.Stop.{Stop}
 use Rattle.script_types.specs.declared.fault.Wrong.{Wrong}
 use Rattle.chunk_files.specs.declared.fault.Stop.TheVariants as stop
@@ -21,6 +23,7 @@ use Rattle.script_steps.specs.declared.references.Needed.TheVariants as needed
 abbrev pub is_right : Needed → VariableKind → Bool
 is_right needed.Chunk = is_chunk
 is_right needed.Audio = is_audio
+is_right needed.Frame = is_frame
 is_right needed.Medium = is_medium
 is_right needed.Copied = is_copied
 is_right needed.Promise = is_promise
@@ -61,6 +64,24 @@ abbrev pub given_to : (Kind → Bool) → List ℕ → Needed → List CodecItem
 given_to right key kind codecs before d =
     and_then (name_in (codes "on") d) (λ on. and_then (name_in key d) (λ name.
     and_then (codec_if right codecs on) (λ maybe_codec. and_then (variable_if kind before name) (λ maybe_variable.
+    and_then (known maybe_codec) (λ codec. and_then (known maybe_variable) (λ found.
+    Ok (codec.number, variable_of name found)))))))
+
+-- what an encode is given, by the codec's kind and by the codec that was found; where none was, any medium
+abbrev pub encoded_by_kind : Kind → Needed
+encoded_by_kind kinds.AudioEncoder = needed.Audio
+encoded_by_kind kinds.VideoEncoder = needed.Frame
+encoded_by_kind _ = needed.Medium
+
+abbrev pub encoded_by : Option FoundCodec → Needed
+encoded_by None = needed.Medium
+encoded_by (Some codec) = encoded_by_kind codec.kind
+
+-- an encoder, and the medium that it is given
+abbrev pub encoded_data : List CodecItem → List Step → Data → Result (ℕ × Variable) (Stop Wrong)
+encoded_data codecs before d =
+    and_then (name_in (codes "on") d) (λ on. and_then (name_in (codes "data") d) (λ name.
+    and_then (codec_if encodes codecs on) (λ maybe_codec. and_then (variable_if (encoded_by maybe_codec) before name) (λ maybe_variable.
     and_then (known maybe_codec) (λ codec. and_then (known maybe_variable) (λ found.
     Ok (codec.number, variable_of name found)))))))
 

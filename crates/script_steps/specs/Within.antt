@@ -21,11 +21,12 @@ use Rattle.script_steps.specs.Steps.{step_of}
 abbrev pub Is32Bits : ℕ → Type 0
 Is32Bits n = n < 2 ^ 32
 
--- a codec's rate, channels and block size, or its width and height, have 32 bits
+-- a codec's rate, channels and block size, or its width, height and key interval, have 32 bits
 abbrev pub HasSmallNumbers : Config → Type 0
 HasSmallNumbers (config.AudioDecoder c) = Is32Bits c.rate × Is32Bits c.channels
 HasSmallNumbers (config.AudioEncoder c) = Is32Bits c.rate × Is32Bits c.channels × Is32Bits c.block_size
 HasSmallNumbers (config.VideoDecoder c) = IfSome c.width Is32Bits × IfSome c.height Is32Bits
+HasSmallNumbers (config.VideoEncoder c) = Is32Bits c.width × Is32Bits c.height × Is32Bits c.key_interval
 HasSmallNumbers config.Bad = Unit {0}
 
 -- a chunk's timestamp has 64 bits with its sign, its duration 64, and it holds bytes
@@ -40,8 +41,11 @@ pub record IsSmallSound (i : SoundInit) : Type 0 where
   pub timestamp : mag i.shape.timestamp < 2 ^ 63
   pub content : IsBytes i.content
 
-abbrev pub HoldsBytes : PictureInit → Type 0
-HoldsBytes i = IsBytes i.content
+-- a timestamp of 64 bits with its sign, a duration of 64, and bytes
+pub record IsSmallPicture (i : PictureInit) : Type 0 where
+  pub timestamp : mag i.shape.timestamp < 2 ^ 63
+  pub duration : IfSome i.shape.duration (λ n. n < 2 ^ 64)
+  pub content : IsBytes i.content
 
 abbrev pub IsSmallSource : ChunkSource → Type 0
 IsSmallSource (source.Init init) = IfSome init IsSmallChunk
@@ -49,7 +53,7 @@ IsSmallSource (source.File file index) = Unit {0}
 
 abbrev pub IsSmallMedia : MediaStep → Type 0
 IsSmallMedia (media.Audio bind init) = IfSome init IsSmallSound
-IsSmallMedia (media.Frame bind init) = IfSome init HoldsBytes
+IsSmallMedia (media.Frame bind init) = IfSome init IsSmallPicture
 IsSmallMedia _ = Unit {0}
 
 -- what the step holds is within its types

@@ -1,7 +1,7 @@
 // Reads configs.
 ghost use Rattle.std.specs.Prelude.{◌≡◌, ◌≢◌, IfOk, IfErr};
 ghost use Rattle.json_data.specs.View.{view};
-ghost use Rattle.script_steps.specs.ConfigRead.{audio_decoder_of, audio_encoder_of, video_decoder_of, config_of};
+ghost use Rattle.script_steps.specs.ConfigRead.{audio_decoder_of, audio_encoder_of, video_decoder_of, video_encoder_of, config_of};
 ghost use Rattle.script_types.specs.Reading.{Gives};
 
 use crate::members::{
@@ -12,7 +12,9 @@ use crate::{Stop, Wrong};
 use json_data::{Value, member};
 use script_types::Kind;
 use std::alloc::Global;
-use wc_config::{AudioDecoderConfig, AudioEncoderConfig, Config, VideoDecoderConfig};
+use wc_config::{
+    AudioDecoderConfig, AudioEncoderConfig, Config, VideoDecoderConfig, VideoEncoderConfig,
+};
 
 fn read_audio_decoder(alloc: Global, value: &Value<'_>) -> Result<Config, Stop<Wrong>>
     ensures { Gives result (audio_decoder_of (view value.now)) }
@@ -79,6 +81,26 @@ fn read_video_decoder(alloc: Global, value: &Value<'_>) -> Result<Config, Stop<W
     }
 }
 
+fn read_video_encoder(alloc: Global, value: &Value<'_>) -> Result<Config, Stop<Wrong>>
+    ensures { Gives result (video_encoder_of (view value.now)) }
+{
+    let codec = text_value(alloc, value, "codec")?;
+    let width = u32_member(value, "width")?;
+    let height = u32_member(value, "height")?;
+    let key_interval = u32_member_or(Some(value), "keyInterval", 0)?;
+    match (codec, width, height, key_interval) {
+        (Some(codec), Some(width), Some(height), Some(key_interval)) => {
+            Ok(Config::VideoEncoder(VideoEncoderConfig {
+                codec,
+                width,
+                height,
+                key_interval,
+            }))
+        }
+        _ => Ok(Config::Bad),
+    }
+}
+
 /// Reads the config of a codec of this kind. `Shape` where a member is of another JSON kind.
 pub fn read_config(alloc: Global, kind: Kind, value: &Value<'_>) -> Result<Config, Stop<Wrong>>
     ensures { Gives result (config_of kind (view value.now)) }
@@ -87,5 +109,6 @@ pub fn read_config(alloc: Global, kind: Kind, value: &Value<'_>) -> Result<Confi
         Kind::AudioDecoder => read_audio_decoder(alloc, value),
         Kind::AudioEncoder => read_audio_encoder(alloc, value),
         Kind::VideoDecoder => read_video_decoder(alloc, value),
+        Kind::VideoEncoder => read_video_encoder(alloc, value),
     }
 }

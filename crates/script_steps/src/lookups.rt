@@ -3,7 +3,7 @@ ghost use Rattle.std.specs.Prelude.{◌≡◌, ◌≢◌, ◌≤◌, IfOk, IfErr
 ghost use Rattle.json_data.specs.View.{view};
 ghost use Rattle.script_types.specs.Names as names;
 ghost use Rattle.script_types.specs.Sound.{encodes};
-ghost use Rattle.script_steps.specs.References.{unused, codec_if, variable_if, variable_of, variable_in, on_of, bound_on, given_to, bound_from};
+ghost use Rattle.script_steps.specs.References.{unused, codec_if, variable_if, variable_of, variable_in, on_of, bound_on, given_to, encoded_data, bound_from};
 ghost use Rattle.script_steps.specs.References as spec;
 ghost use Rattle.script_steps.specs.declared.references.Needed.TheVariants as needed;
 ghost use Rattle.script_types.specs.Reading.{Gives};
@@ -11,7 +11,7 @@ ghost use Rattle.script_types.specs.Reading.{Gives};
 use crate::references::Needed;
 use crate::{Stop, Variables, Wrong, copied, find_codec, name_member};
 use json_data::Value;
-use script_types::{CodecItem, FoundCodec, FoundVariable, Variable, VariableKind, decodes};
+use script_types::{CodecItem, FoundCodec, FoundVariable, Kind, Variable, VariableKind, decodes};
 use std::alloc::Global;
 use wc_base::{NoMemory, Text};
 
@@ -21,6 +21,7 @@ fn is_right(needed: Needed, kind: VariableKind) -> bool
     match needed {
         Needed::Chunk => kind == VariableKind::Chunk,
         Needed::Audio => kind == VariableKind::Audio,
+        Needed::Frame => kind == VariableKind::Frame,
         Needed::Medium => matches!(kind, VariableKind::Audio | VariableKind::Frame),
         Needed::Copied => kind != VariableKind::Promise,
         Needed::Promise => kind == VariableKind::Promise,
@@ -159,7 +160,27 @@ pub fn read_decoder_chunk(
     Ok((codec.number, variable_of(alloc, name, found)?))
 }
 
-/// An encoder, and the audio data that it is given.
+/// What an encoder is given. A codec that was not found may be given any medium.
+fn encoded_by(codec: Option<FoundCodec>) -> Needed
+    ensures { result ≡ spec.encoded_by codec }
+{
+    match codec {
+        Some(codec) => encoded_by_kind(codec.kind),
+        None => Needed::Medium,
+    }
+}
+
+fn encoded_by_kind(kind: Kind) -> Needed
+    ensures { result ≡ spec.encoded_by_kind kind }
+{
+    match kind {
+        Kind::AudioEncoder => Needed::Audio,
+        Kind::VideoEncoder => Needed::Frame,
+        Kind::AudioDecoder | Kind::VideoDecoder => Needed::Medium,
+    }
+}
+
+/// An encoder, and the medium that it is given.
 pub fn read_encoder_data(
     alloc: Global,
     codecs: &[CodecItem],
@@ -169,12 +190,12 @@ pub fn read_encoder_data(
     requires codecs { length codecs.now ≤ 64 }
     requires steps { length before.now ≤ 100000 }
     ensures { Gives result
-        (given_to encodes (codes "data") needed.Audio codecs.now before.now (view value.now)) }
+        (encoded_data codecs.now before.now (view value.now)) }
 {
     let on = name_member(value, "on")?;
     let name = name_member(value, "data")?;
     let codec = find_encoder(codecs, on)?;
-    let variable = find_variable(before, name, Needed::Audio)?;
+    let variable = find_variable(before, name, encoded_by(codec))?;
     let (Some(codec), Some(found)) = (codec, variable) else {
         return Err(Stop::Fault(Wrong::UnknownName));
     };

@@ -5,6 +5,7 @@
 pub enum Needed {
     Chunk,
     Audio,
+    Frame,
     Medium,
     Copied,
     Promise,

@@ -16,11 +16,12 @@ fn codec(alloc: Global, name: &str, kind: Kind) -> Result<CodecItem, Stop<Wrong>
 }
 
 // A codec of each kind.
-fn codecs(alloc: Global) -> Result<[CodecItem; 3], Stop<Wrong>> {
+fn codecs(alloc: Global) -> Result<[CodecItem; 4], Stop<Wrong>> {
     Ok([
         codec(alloc, "decoder", Kind::AudioDecoder)?,
         codec(alloc, "encoder", Kind::AudioEncoder)?,
         codec(alloc, "video", Kind::VideoDecoder)?,
+        codec(alloc, "pictures", Kind::VideoEncoder)?,
     ])
 }
 
@@ -67,8 +68,8 @@ fn read_after(alloc: Global, text: &str) -> Result<Step, Stop<Wrong>> {
     read(alloc, &mut files, &before, text)
 }
 
-// One step of each word, 18 in all.
-const EACH: [&str; 18] = [
+// One step of each word, and an encode on either kind of encoder.
+const EACH: [&str; 19] = [
     r#"{"do":"configure","on":"decoder","config":{}}"#,
     r#"{"do":"chunk","as":"x","init":{"type":"key","timestamp":1,"data":"00"}}"#,
     r#"{"do":"decode","on":"decoder","chunk":"chunk"}"#,
@@ -81,6 +82,7 @@ const EACH: [&str; 18] = [
     r#"{"do":"audio","as":"x","init":{"format":"u8"}}"#,
     r#"{"do":"frame","as":"x","init":{"format":"I420"}}"#,
     r#"{"do":"encode","on":"encoder","data":"audio"}"#,
+    r#"{"do":"encode","on":"pictures","data":"frame"}"#,
     r#"{"do":"take","on":"decoder","as":"x"}"#,
     r#"{"do":"clone","of":"audio","as":"x"}"#,
     r#"{"do":"transfer","of":"frame","as":"x"}"#,
@@ -109,6 +111,10 @@ fn others_are_wrong_in_shape(rt: HostRuntime) -> Result<(), Fail> {
         r#"{"do":"decode","on":"nobody","chunk":"audio"}"#,
         r#"{"do":"encode","on":"decoder","data":"audio"}"#,
         r#"{"do":"encode","on":"encoder","data":"frame"}"#,
+        r#"{"do":"encode","on":"pictures","data":"audio"}"#,
+        r#"{"do":"encode","on":"video","data":"frame"}"#,
+        r#"{"do":"encode","on":"nobody","data":"chunk"}"#,
+        r#"{"do":"decode","on":"pictures","chunk":"chunk"}"#,
         r#"{"do":"poll","promise":"chunk"}"#,
         r#"{"do":"await","promise":"audio"}"#,
         r#"{"do":"audio","as":"audio","init":7}"#,
@@ -157,6 +163,10 @@ fn names_stand_twice_or_are_unknown(rt: HostRuntime) -> Result<(), Fail> {
         ),
         (
             r#"{"do":"encode","on":"encoder","data":"nobody"}"#,
+            Wrong::UnknownName,
+        ),
+        (
+            r#"{"do":"encode","on":"nobody","data":"frame"}"#,
             Wrong::UnknownName,
         ),
         (r#"{"do":"poll","promise":"decoder"}"#, Wrong::UnknownName),
@@ -235,6 +245,10 @@ fn kinds_come_with_what_is_found(rt: HostRuntime) -> Result<(), Fail> {
         (
             r#"{"do":"take","on":"video","as":"x"}"#,
             VariableKind::Frame,
+        ),
+        (
+            r#"{"do":"take","on":"pictures","as":"x"}"#,
+            VariableKind::Chunk,
         ),
         (
             r#"{"do":"copy","of":"chunk","size":3}"#,

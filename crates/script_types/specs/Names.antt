@@ -37,21 +37,31 @@ abbrev pub kind_text : Kind → List ℕ
 kind_text kind.AudioDecoder = codes "audio-decoder"
 kind_text kind.AudioEncoder = codes "audio-encoder"
 kind_text kind.VideoDecoder = codes "video-decoder"
+kind_text kind.VideoEncoder = codes "video-encoder"
 
 -- the kind whose word this is
 abbrev pub kind_named : List ℕ → Option Kind
-kind_named w = first_named kind_text (kind.AudioDecoder ∷ kind.AudioEncoder ∷ kind.VideoDecoder ∷ []) w
+kind_named w = first_named kind_text (kind.AudioDecoder ∷ kind.AudioEncoder ∷ kind.VideoDecoder ∷ kind.VideoEncoder ∷ []) w
 
 abbrev pub decodes : Kind → Bool
 decodes kind.AudioDecoder = true
 decodes kind.AudioEncoder = false
 decodes kind.VideoDecoder = true
+decodes kind.VideoEncoder = false
 
 -- what the outputs of a codec of this kind are
 abbrev pub outputs_of : Kind → VariableKind
 outputs_of kind.AudioDecoder = holds.Audio
 outputs_of kind.AudioEncoder = holds.Chunk
 outputs_of kind.VideoDecoder = holds.Frame
+outputs_of kind.VideoEncoder = holds.Chunk
+
+-- what a codec of this kind is given
+abbrev pub inputs_of : Kind → VariableKind
+inputs_of kind.AudioDecoder = holds.Chunk
+inputs_of kind.AudioEncoder = holds.Audio
+inputs_of kind.VideoDecoder = holds.Chunk
+inputs_of kind.VideoEncoder = holds.Frame
 
 -- ---- codecs and callers
 
@@ -174,6 +184,10 @@ is_chunk _ = false
 abbrev pub is_audio : VariableKind → Bool
 is_audio holds.Audio = true
 is_audio _ = false
+
+abbrev pub is_frame : VariableKind → Bool
+is_frame holds.Frame = true
+is_frame _ = false
 
 abbrev pub is_promise : VariableKind → Bool
 is_promise holds.Promise = true

@@ -27,7 +27,7 @@ use Rattle.script_types.specs.declared.steps.MediaStep.TheVariants as media
 use Rattle.script_types.specs.declared.steps.Step.{Step}
 use Rattle.script_types.specs.declared.found.FoundVariable.{FoundVariable}
 use Rattle.script_types.specs.declared.steps.Step.TheVariants as step
-use Rattle.script_types.specs.Names.{is_name, decodes, outputs_of, is_codec_name, is_caller_name, variable_named, is_variable_name, is_chunk, is_audio, is_promise, is_medium, is_copied}
+use Rattle.script_types.specs.Names.{is_name, decodes, inputs_of, outputs_of, is_codec_name, is_caller_name, variable_named, is_variable_name, is_chunk, is_promise, is_medium, is_copied}
 
 -- ---- limits
 
@@ -103,6 +103,7 @@ abbrev pub suits : Config → Kind → Bool
 suits (config.AudioDecoder c) kind.AudioDecoder = true
 suits (config.AudioEncoder c) kind.AudioEncoder = true
 suits (config.VideoDecoder c) kind.VideoDecoder = true
+suits (config.VideoEncoder c) kind.VideoEncoder = true
 suits config.Bad k = true
 suits _ _ = false
 
@@ -117,10 +118,14 @@ are_options_of _ _ = false
 abbrev pub gives : VariableKind → Kind → Bool
 gives v k = same_kind (outputs_of k) v
 
+-- a codec of this kind encodes what is of this kind
+abbrev pub takes : VariableKind → Kind → Bool
+takes v k = encodes k && same_kind (inputs_of k) v
+
 abbrev pub is_sound_media : List CodecItem → List Step → MediaStep → Bool
 is_sound_media codecs before (media.Audio bind init) = is_free before bind
 is_sound_media codecs before (media.Frame bind init) = is_free before bind
-is_sound_media codecs before (media.Encode on content) = is_codec codecs encodes on && is_variable before is_audio content
+is_sound_media codecs before (media.Encode on content) = is_codec codecs (takes content.kind) on && is_variable before is_medium content
 is_sound_media codecs before (media.Take on bind kind) = is_codec codecs (gives kind) on && is_free before bind
 is_sound_media codecs before (media.Clone of bind) = is_variable before is_medium of && is_free before bind
 is_sound_media codecs before (media.Transfer of bind) = is_variable before is_medium of && is_free before bind

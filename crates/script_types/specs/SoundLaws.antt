@@ -20,7 +20,7 @@ use Rattle.script_types.specs.declared.steps.VariableKind.TheVariants as holds
 use Rattle.script_types.specs.declared.steps.Step.{Step}
 use Rattle.script_types.specs.declared.steps.Step.TheVariants as step
 use Rattle.script_types.specs.Names.{decodes, names_codec, called, taken_from, looked_at, binds, variable_at, variable_named, is_promise, is_medium}
-use Rattle.script_types.specs.Sound.{is_sound, is_sound_codec, are_sound_codecs, is_codec, is_codec_kind, any_kind, encodes, same_kind, suits, gives, is_found, is_variable, is_sound_step, are_sound_steps, are_sound_callers, are_few, is_sound_item, is_sound_order, is_small_media, are_sound_files}
+use Rattle.script_types.specs.Sound.{is_sound, is_sound_codec, are_sound_codecs, is_codec, is_codec_kind, any_kind, takes, same_kind, suits, gives, is_found, is_variable, is_sound_step, are_sound_steps, are_sound_callers, are_few, is_sound_item, is_sound_order, is_small_media, are_sound_files}
 
 first : (a b : Bool) → (a && b) ≡ true → a ≡ true
 first a b h = (and_parts a b h).0
@@ -108,7 +108,7 @@ names_within codecs before (step.Flush on bind) h = codec_within codecs any_kind
 names_within codecs before (step.Reset on) h = codec_within codecs any_kind on h
 names_within codecs before (step.Close on) h = codec_within codecs any_kind on h
 names_within codecs before (step.State on) h = codec_within codecs any_kind on h
-names_within codecs before (step.Media (media.Encode on content)) h = codec_within codecs encodes on (first _ _ h)
+names_within codecs before (step.Media (media.Encode on content)) h = codec_within codecs (takes content.kind) on (first _ _ h)
 names_within codecs before (step.Media (media.Take on bind kind)) h = codec_within codecs (gives kind) on (first _ _ h)
 names_within codecs before (step.Media x) h = tt
 names_within codecs before x h = tt
@@ -230,6 +230,7 @@ no_output : (v : VariableKind) (k : Kind) → gives v k ≡ true → v ≡ holds
 no_output holds.Promise kind.AudioDecoder h is = absurd cc
 no_output holds.Promise kind.AudioEncoder h is = absurd cc
 no_output holds.Promise kind.VideoDecoder h is = absurd cc
+no_output holds.Promise kind.VideoEncoder h is = absurd cc
 no_output holds.Chunk k h is = absurd cc
 no_output holds.Audio k h is = absurd cc
 no_output holds.Frame k h is = absurd cc

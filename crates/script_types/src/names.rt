@@ -1,5 +1,6 @@
 // What names in scripts name, and what steps define.
-ghost use Rattle.std.specs.Prelude.{◌≡◌, option_map};
+ghost use Rattle.std.specs.Prelude.{◌≡◌, bytes_eq, option_map};
+ghost use Rattle.std.specs.List.{find};
 ghost use Rattle.script_types.specs.Names.{binds, binds_media};
 ghost use Rattle.script_types.specs.Names as spec;
 
@@ -13,19 +14,32 @@ pub fn kind_text(kind: Kind) -> &'static str
         Kind::AudioDecoder => "audio-decoder",
         Kind::AudioEncoder => "audio-encoder",
         Kind::VideoDecoder => "video-decoder",
+        Kind::VideoEncoder => "video-encoder",
     }
 }
 
-const KINDS: [Kind; 3] = [Kind::AudioDecoder, Kind::AudioEncoder, Kind::VideoDecoder];
+const KINDS: [Kind; 4] = [
+    Kind::AudioDecoder,
+    Kind::AudioEncoder,
+    Kind::VideoDecoder,
+    Kind::VideoEncoder,
+];
+
+// The first of these kinds whose word this is.
+fn first_kind(kinds: &[Kind], word: &[u8]) -> Option<Kind>
+    ensures { result ≡ find (λ kind. bytes_eq word.now (spec.kind_text kind)) kinds.now }
+{
+    kinds
+        .iter()
+        .copied()
+        .find(|kind| word == kind_text(*kind).as_bytes())
+}
 
 /// The kind whose word this is.
 pub fn kind_named(word: &[u8]) -> Option<Kind>
     ensures { result ≡ spec.kind_named word.now }
 {
-    KINDS
-        .iter()
-        .copied()
-        .find(|kind| word == kind_text(*kind).as_bytes())
+    first_kind(&KINDS, word)
 }
 
 /// Whether a codec of this kind decodes.
@@ -34,7 +48,7 @@ pub fn decodes(kind: Kind) -> bool
 {
     match kind {
         Kind::AudioDecoder | Kind::VideoDecoder => true,
-        Kind::AudioEncoder => false,
+        Kind::AudioEncoder | Kind::VideoEncoder => false,
     }
 }
 
@@ -44,8 +58,19 @@ pub fn outputs_of(kind: Kind) -> VariableKind
 {
     match kind {
         Kind::AudioDecoder => VariableKind::Audio,
-        Kind::AudioEncoder => VariableKind::Chunk,
+        Kind::AudioEncoder | Kind::VideoEncoder => VariableKind::Chunk,
         Kind::VideoDecoder => VariableKind::Frame,
+    }
+}
+
+/// What a codec of this kind is given: chunks, or the media that it encodes.
+pub fn inputs_of(kind: Kind) -> VariableKind
+    ensures { result ≡ spec.inputs_of kind }
+{
+    match kind {
+        Kind::AudioDecoder | Kind::VideoDecoder => VariableKind::Chunk,
+        Kind::AudioEncoder => VariableKind::Audio,
+        Kind::VideoEncoder => VariableKind::Frame,
     }
 }
 

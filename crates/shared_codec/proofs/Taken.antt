@@ -33,7 +33,7 @@ brings_none o who (Call.Configure config) may = refl
 brings_none o who (Call.Decode chunk) may = refl
 brings_none o who (Call.Encode Handed.Gone) may = refl
 brings_none o who (Call.Encode Handed.Kept) may = refl
-brings_none o who (Call.Encode (Handed.Cloned sound)) may = absurd (let bad = may (opening_control o) in cc)
+brings_none o who (Call.Encode (Handed.Cloned held)) may = absurd (let bad = may (opening_control o) in cc)
 brings_none o who Call.Flush may = refl
 brings_none o who Call.Reset may = refl
 brings_none o who Call.Close may = refl

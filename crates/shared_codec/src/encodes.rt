@@ -16,11 +16,11 @@ use crate::calls::{call_placed, has_replied};
 use crate::codec::{CodecSeat, SharedCodec};
 use crate::passage::{no_acquires, passage_if};
 use codec_media::{HoldingCore, Reply};
-use codec_model::{Call, Handed, HeldSound, Pair};
+use codec_model::{Call, Content, Handed, HeldMedium, Pair};
 use coder_api::Coder;
 use shared_pool::{PoolSeat, SharedPool};
 use std::sync::Wait;
-use wc_base::{By, NoMemory, Samples, Who};
+use wc_base::{By, NoMemory, Who};
 use wc_pool::MediaRef;
 
 // The clone, and the encode that keeps it. A clone that is not kept is ended.
@@ -29,7 +29,7 @@ fn encode_clone<C: Coder, R: Wait>(
     codec: u32,
     core: &mut HoldingCore<C>,
     who: Who,
-    samples: Samples,
+    content: Content,
     medium: &mut MediaRef,
     pool: &SharedPool,
     seat: &mut PoolSeat,
@@ -41,7 +41,7 @@ fn encode_clone<C: Coder, R: Wait>(
     ensures free { IsFree pool.now seat.new }
     ensures medium { with_token None medium.new ≡ with_token None medium.old }
     ensures still { IsPoolRef pool.now medium.new }
-    ensures encoded { EncodeGives codec pool.now core.old core.new who samples medium.old result
+    ensures encoded { EncodeGives codec pool.now core.old core.new who content medium.old result
         seat.old.me.0 seat.new.me.0 }
 {
     let (place, _, _) = core.core().look();
@@ -51,7 +51,11 @@ fn encode_clone<C: Coder, R: Wait>(
         resource: clone.resource(),
         reference: clone.number(),
     };
-    let call = Call::Encode(Handed::Cloned(HeldSound { samples, pair }));
+    let call = Call::Encode(Handed::Cloned(HeldMedium {
+        shape: content.shape,
+        bytes: content.bytes,
+        pair,
+    }));
     match core.call(who, call, Some(clone)) {
         Ok(reply) => Ok(reply),
         Err(Some(clone)) => {
@@ -62,13 +66,13 @@ fn encode_clone<C: Coder, R: Wait>(
     }
 }
 
-// An encode of open data: it is refused, or its clone is made and kept.
+// An encode of an open medium: it is refused, or its clone is made and kept.
 fn encode_in<C: Coder, R: Wait>(
     rt: &R,
     codec: u32,
     core: &mut HoldingCore<C>,
     who: Who,
-    samples: Samples,
+    content: Content,
     medium: &mut MediaRef,
     pool: &SharedPool,
     seat: &mut PoolSeat,
@@ -79,17 +83,17 @@ fn encode_in<C: Coder, R: Wait>(
     ensures free { IsFree pool.now seat.new }
     ensures medium { with_token None medium.new ≡ with_token None medium.old }
     ensures still { IsPoolRef pool.now medium.new }
-    ensures encoded { EncodeGives codec pool.now core.old core.new who samples medium.old result
+    ensures encoded { EncodeGives codec pool.now core.old core.new who content medium.old result
         seat.old.me.0 seat.new.me.0 }
 {
     match core.encode_refusal(false) {
         Some(_) => call_placed(core, who, Call::Encode(Handed::Kept)),
-        None => encode_clone(rt, codec, core, who, samples, medium, pool, seat),
+        None => encode_clone(rt, codec, core, who, content, medium, pool, seat),
     }
 }
 
 impl<C: Coder> SharedCodec<C> {
-    /// An encode of open data, with its samples and its reference, as `Core::call` makes it. Where the codec is configured a
+    /// An encode of an open medium, with its content and its reference, as `Core::call` makes it. Where the codec is configured a
     /// clone of the reference is made inside the passage, after the check, and kept; else the encode is refused, and no
     /// clone is made. At `NoMemory` none was made, or it was ended.
     pub fn encode<R: Wait>(
@@ -97,7 +101,7 @@ impl<C: Coder> SharedCodec<C> {
         rt: &R,
         seat: &mut CodecSeat<C>,
         who: Who,
-        samples: Samples,
+        content: Content,
         medium: &mut MediaRef,
         pool: &SharedPool,
         pool_seat: &mut PoolSeat,
@@ -111,7 +115,7 @@ impl<C: Coder> SharedCodec<C> {
         ensures free { IsFree pool.now pool_seat.new }
         ensures medium { with_token None medium.new ≡ with_token None medium.old }
         ensures still { IsPoolRef pool.now medium.new }
-        ensures reply { EncodeTells self.now who samples medium.old result seat.old seat.new
+        ensures reply { EncodeTells self.now who content medium.old result seat.old seat.new
             pool_seat.old.me.0 pool_seat.new.me.0 }
         ensures settles { OnOk result (SettlesInPool self.now seat.old.me.0 seat.new.me.0
             pool_seat.old.me.0 pool_seat.new.me.0) }
@@ -123,7 +127,7 @@ impl<C: Coder> SharedCodec<C> {
             self.codec,
             &mut held.state().core,
             who,
-            samples,
+            content,
             medium,
             pool,
             pool_seat,

@@ -6,14 +6,14 @@ ghost use Rattle.shared_pool.specs.Steps as pools;
 ghost use Rattle.shared_slots.specs.Steps.{IsFree};
 ghost use Rattle.shared_codec.specs.Keeps.{Keeps};
 
-use codec_model::Call;
+use codec_model::{Call, Content, MediaShape};
 use sample_coder::SampleCoder;
 use shared_codec::{CodecSeat, SharedCodec};
 use shared_pool::{PoolSeat, SharedPool};
 use shared_slots::{SlotRegistry, SlotSeat};
 use std::alloc::Global;
 use std::sync::Wait;
-use wc_base::{NoMemory, SampleFormat, Samples, SoundShape, Text, Who};
+use wc_base::{NoMemory, SampleFormat, SoundShape, Text, Who};
 use wc_config::{AudioEncoderConfig, Config};
 use wc_pool::MediaRef;
 
@@ -57,8 +57,11 @@ fn encode_one<R: Wait>(
     ensures still { IsPoolRef pool.now medium.new }
 {
     if let Ok(bytes) = medium.bytes().clone() {
-        let samples = Samples { shape: MONO, bytes };
-        let _ = codec.encode(rt, seat, who, samples, medium, pool, pool_seat);
+        let content = Content {
+            shape: MediaShape::Sound(MONO),
+            bytes,
+        };
+        let _ = codec.encode(rt, seat, who, content, medium, pool, pool_seat);
     }
 }
 

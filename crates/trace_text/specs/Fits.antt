@@ -30,8 +30,7 @@ use Rattle.codec_accounts.specs.Calls.{Mark, Climbs}
 use Rattle.codec_accounts.specs.Calls as mark
 use Rattle.wc_pool.specs.Bag.{held_in}
 use Rattle.wc_pool.specs.declared.entry.PoolOp.{PoolOp}
-use Rattle.wc_audio.specs.Sound.{Sound}
-use Rattle.media_variables.specs.Variables.{Medium, Came, Taken, Brought, sound_at, handed_of}
+use Rattle.media_variables.specs.Variables.{Medium, Came, Taken, Brought, Lendable, lendable_at, handed_of}
 use Rattle.media_accounts.specs.Accounts.{came_in, variables_in, lent_at, MediaAreIn}
 use Rattle.trace_text.specs.Follow.{Recorded, Course, record_of, opening_of, opening_at, steps_of, chunk_for, copied_chunk, output_at, source_error, promise_after, take_entry, order_items, Follows, nothing_yet}
 
@@ -164,7 +163,7 @@ HasArguments s media vs c x (step.Flush on bind) = x ≡ call.Flush
 HasArguments s media vs c x (step.Reset on) = x ≡ call.Reset
 HasArguments s media vs c x (step.Close on) = x ≡ call.Close
 HasArguments s media vs c x (step.Media (on_media.Encode on content)) =
-    (y : Sound) × (number : ℕ) × (accepts : Bool) × (sound_at vs content.step ≡ Some y) × (x ≡ call.Encode (handed_of number accepts y))
+    (y : Lendable) × (number : ℕ) × (accepts : Bool) × (lendable_at vs content.step ≡ Some y) × (x ≡ call.Encode (handed_of number accepts y))
 HasArguments s media vs c x (step.Media (on_media.Take on bind kind)) = (n : ℕ) × (x ≡ call.Take n)
 HasArguments s media vs c x _ = ⊥
 
@@ -172,7 +171,7 @@ abbrev pub ArgumentsAreIn : ScriptData → List (List Chunk) → Recorded → Ty
 ArgumentsAreIn s media w = (k p : ℕ) (who : Who) (x : Call) → entry_in w k p ≡ Some (entry.Call who x) →
     (y : Step) × (step_in s who.caller who.step ≡ Some y) × HasArguments s media (variables_at s media w who.caller who.step) who.caller x y
 
--- The config, chunk or samples of a call are what the script, its chunk files and the caller's earlier steps give.
+-- The config, chunk or medium of a call are what the script, its chunk files and the caller's earlier steps give.
 abbrev pub ArgumentsAreTheScripts : ScriptData → List (List Chunk) → Run → Type 0
 ArgumentsAreTheScripts s media run = ArgumentsAreIn s media (recorded_of run)
 
@@ -191,7 +190,7 @@ IsOwnAnswer (Some y) r = r ≡ y.answer
 
 -- absent is only an encode whose variable is absent
 abbrev pub IsEncodeAnswer : List (Option Medium) → MediaStep → StepResult → Type 0
-IsEncodeAnswer vs (on_media.Encode on content) result.Absent = sound_at vs content.step ≡ None
+IsEncodeAnswer vs (on_media.Encode on content) result.Absent = lendable_at vs content.step ≡ None
 IsEncodeAnswer vs x r = Unit {0}
 
 -- by the codec that a step on media takes an output of, if it takes one, and by the codec that it calls

@@ -40,8 +40,7 @@ use Rattle.report_text.specs.declared.result.StepResult.{StepResult}
 use Rattle.report_text.specs.declared.result.StepResult.TheVariants as result
 use Rattle.wc_pool.specs.declared.entry.PoolEntry.{PoolEntry}
 use Rattle.wc_pool.specs.Bag.{references_made}
-use Rattle.wc_audio.specs.Sound.{Sound}
-use Rattle.media_variables.specs.Variables.{Medium, Media, Came, Taken, Brought, chunk_in, chunk_of_variable, sound_at, handed_of, media_came, after_came, variables_of}
+use Rattle.media_variables.specs.Variables.{Medium, Media, Came, Taken, Brought, Lendable, chunk_in, chunk_of_variable, lendable_at, handed_of, media_came, after_came, variables_of}
 use Rattle.media_accounts.specs.Accounts.{after_entry_of}
 
 -- What was recorded so far: each caller's results, each codec's history, the pool's of media, and the registry's.
@@ -231,8 +230,8 @@ abbrev pub call_move : Who → ℕ → Option Call → Move
 call_move who k None = Answer who.caller result.Absent
 call_move who k (Some x) = Ask who k x
 
--- an encode of audio data, of which the codec makes a clone where it is configured; its reference has the next number
-abbrev pub encode_of : List PoolEntry → CodecValue → Sound → Call
+-- an encode of a medium, of which the codec makes a clone where it is configured; its reference has the next number
+abbrev pub encode_of : List PoolEntry → CodecValue → Lendable → Call
 encode_of pool d x = call.Encode (handed_of (references_made pool) (is_configured (state_of d).control) x)
 
 -- what a look shows at the promise of the flush that came to this result
@@ -265,7 +264,7 @@ media_move s media who (on_media.Take on bind kind) v =
     let b : Brought = record { chunk = None; taken = found_at on (codec_at on v.codecs) } in
     take_move who on (codec_at on v.codecs) (media_came v.media.pool who b (on_media.Take on bind kind) (variables_of who.caller v.media.variables))
 media_move s media who (on_media.Encode on content) v =
-    call_move who on (option_map (encode_of v.media.pool (codec_at on v.codecs)) (sound_at (variables_of who.caller v.media.variables) content.step))
+    call_move who on (option_map (encode_of v.media.pool (codec_at on v.codecs)) (lendable_at (variables_of who.caller v.media.variables) content.step))
 media_move s media who x v =
     let b : Brought = record { chunk = copied_chunk media (steps_of s who.caller) x; taken = None } in
     handle_move who (media_came v.media.pool who b x (variables_of who.caller v.media.variables))

@@ -41,6 +41,7 @@ abbrev pub coder_id_of : Config → Option CoderId
 coder_id_of (config.AudioDecoder c) = id_with role.Decode (audio_codec c.codec)
 coder_id_of (config.AudioEncoder c) = id_with role.Encode (audio_codec c.codec)
 coder_id_of (config.VideoDecoder c) = id_with role.Decode (video_codec c.codec)
+coder_id_of (config.VideoEncoder c) = id_with role.Encode (video_codec c.codec)
 coder_id_of config.Bad = None
 
 -- tab, line feed, form feed, carriage return, space
@@ -69,6 +70,7 @@ is_valid (config.AudioEncoder c) =
     not (is_blank c.codec) && nat_le 1 c.rate && nat_le 1 c.channels
     && is_block_size c.block_size && nat_le c.level 8 && is_depth c.depth
 is_valid (config.VideoDecoder c) = not (is_blank c.codec) && is_pair c.width c.height && is_pair c.aspect_width c.aspect_height
+is_valid (config.VideoEncoder c) = not (is_blank c.codec) && nat_le 1 c.width && nat_le 1 c.height
 is_valid config.Bad = false
 
 -- a description that is there and that a FLAC stream may have
@@ -90,6 +92,7 @@ is_within (config.AudioDecoder c) = if is_flac (audio_codec c.codec) then has_st
 is_within (config.AudioEncoder c) =
     if is_flac (audio_codec c.codec) then nat_le c.channels 8 && nat_le c.rate 1048575 else nat_le c.channels 32
 is_within (config.VideoDecoder c) = is_size c.width && is_size c.height
+is_within (config.VideoEncoder c) = nat_le c.width 16384 && nat_le c.height 16384
 is_within config.Bad = false
 
 -- a config is supported where it is valid, names a known codec, and is within what that codec's coder can work with

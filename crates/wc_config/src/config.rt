@@ -1,4 +1,4 @@
-// Configurations (W3C WebCodecs, AudioDecoderConfig, AudioEncoderConfig, VideoDecoderConfig).
+// Configurations (W3C WebCodecs, AudioDecoderConfig, AudioEncoderConfig, VideoDecoderConfig, VideoEncoderConfig).
 ghost use Rattle.std.specs.Prelude.{◌≡◌, IfOk};
 
 use bytes::Bytes;
@@ -35,6 +35,16 @@ pub struct VideoDecoderConfig {
     pub aspect_height: Option<u32>,
 }
 
+/// The config of a video encoder, sizes in pixels. `key_interval` is in frames (our choice): of the frames since the last
+/// flush, the first is a key frame, and every so many after it. With 0 the first alone is.
+#[derive(Debug, PartialEq, Drop)]
+pub struct VideoEncoderConfig {
+    pub codec: Text,
+    pub width: u32,
+    pub height: u32,
+    pub key_interval: u32,
+}
+
 /// A config as a caller gave it. `Bad` is one that breaks a rule of WebIDL: a required member is missing, or a number
 /// is outside its type.
 #[derive(Debug, PartialEq, Drop)]
@@ -42,6 +52,7 @@ pub enum Config {
     AudioDecoder(AudioDecoderConfig),
     AudioEncoder(AudioEncoderConfig),
     VideoDecoder(VideoDecoderConfig),
+    VideoEncoder(VideoEncoderConfig),
     Bad,
 }
 
@@ -92,6 +103,20 @@ impl VideoDecoderConfig {
     }
 }
 
+impl VideoEncoderConfig {
+    /// The same config again.
+    pub fn copy(&self) -> Result<VideoEncoderConfig, NoMemory>
+        ensures { IfOk result (λ c. c ≡ self.now) }
+    {
+        Ok(VideoEncoderConfig {
+            codec: self.codec.copy()?,
+            width: self.width,
+            height: self.height,
+            key_interval: self.key_interval,
+        })
+    }
+}
+
 impl Config {
     /// The same config again.
     pub fn copy(&self) -> Result<Config, NoMemory>
@@ -101,6 +126,7 @@ impl Config {
             Config::AudioDecoder(c) => Ok(Config::AudioDecoder(c.copy()?)),
             Config::AudioEncoder(c) => Ok(Config::AudioEncoder(c.copy()?)),
             Config::VideoDecoder(c) => Ok(Config::VideoDecoder(c.copy()?)),
+            Config::VideoEncoder(c) => Ok(Config::VideoEncoder(c.copy()?)),
             Config::Bad => Ok(Config::Bad),
         }
     }

@@ -1,9 +1,10 @@
 // Kinds of codecs.
 
-/// What a codec is (W3C WebCodecs: AudioDecoder, AudioEncoder, VideoDecoder).
+/// What a codec is (W3C WebCodecs: AudioDecoder, AudioEncoder, VideoDecoder, VideoEncoder).
 #[derive(Clone, Copy, Debug, PartialEq, Eq)]
 pub enum Kind {
     AudioDecoder,
     AudioEncoder,
     VideoDecoder,
+    VideoEncoder,
 }

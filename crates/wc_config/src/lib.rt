@@ -8,6 +8,8 @@ mod stream_info;
 mod support;
 
 pub use codec::{CodecId, CoderId, Role};
-pub use config::{AudioDecoderConfig, AudioEncoderConfig, Config, VideoDecoderConfig};
+pub use config::{
+    AudioDecoderConfig, AudioEncoderConfig, Config, VideoDecoderConfig, VideoEncoderConfig,
+};
 pub use kind::Kind;
 pub use stream_info::{StreamInfo, read_streaminfo};

@@ -19,6 +19,7 @@ impl Config {
                 && c.channels >= 1,
             Config::AudioEncoder(c) => is_valid_encoder(c),
             Config::VideoDecoder(c) => is_valid_video(c),
+            Config::VideoEncoder(c) => !is_blank(c.codec.as_str()) && c.width >= 1 && c.height >= 1,
             Config::Bad => false,
         }
     }
@@ -31,6 +32,7 @@ impl Config {
             Config::AudioDecoder(c) => (Role::Decode, audio_codec(c.codec.as_str())),
             Config::AudioEncoder(c) => (Role::Encode, audio_codec(c.codec.as_str())),
             Config::VideoDecoder(c) => (Role::Decode, video_codec(c.codec.as_str())),
+            Config::VideoEncoder(c) => (Role::Encode, video_codec(c.codec.as_str())),
             Config::Bad => (Role::Decode, None),
         };
         Some(CoderId {
@@ -131,6 +133,7 @@ fn is_within(config: &Config) -> bool
             }
         }
         Config::VideoDecoder(c) => is_size(c.width) && is_size(c.height),
+        Config::VideoEncoder(c) => c.width <= 16384 && c.height <= 16384,
         Config::Bad => false,
     }
 }

@@ -1,17 +1,16 @@
 -- What the calls of callers make: their entry, its effect on the callers' media, and their answer.
 use Rattle.std.proofs.Common.{ℕ, ◌≡◌, Bool, true, false, not, List, [], length, Option, Some, None, is_some, refl, ap}
 use Rattle.std.specs.Prelude.{option_map, IfSome, if◌then◌else◌}
-use Rattle.wc_base.specs.declared.{error.DomError.DomError, who.Who.Who, media.SoundShape.SoundShape}
-use Rattle.wc_pool.specs.{declared.reference.MediaRef.MediaRef, Bag.references_made}
-use Rattle.wc_audio.specs.Sound.{Sound}
-use Rattle.codec_model.specs.declared.entry.{Entry.Entry, Call.Call, Handed.Handed, HeldSound.HeldSound}
+use Rattle.wc_base.specs.declared.{error.DomError.DomError, who.Who.Who}
+use Rattle.wc_pool.specs.Bag.{references_made}
+use Rattle.codec_model.specs.declared.entry.{Entry.Entry, Call.Call, Handed.Handed, HeldMedium.HeldMedium, MediaShape.MediaShape}
 use Rattle.codec_model.specs.{Control.Control, Held.adds_held, Shown.exception_of}
 use Rattle.codec_model.specs.Replay.{call_error, may_call, encode_error, refused_as, is_configured}
 use Rattle.slot_registry.specs.Slots.{SlotsValue}
 use Rattle.codec_accounts.specs.Owed.{append_at}
 use Rattle.codec_accounts.specs.Codec.{CodecValue, codec_at, codecs_after, state_of, slots_by}
 use Rattle.report_text.specs.declared.result.StepResult.{StepResult}
-use Rattle.media_variables.specs.{declared.lending.SoundFound.SoundFound, Variables.Media, Variables.handed_by, Variables.handed_of, Held.sound_found}
+use Rattle.media_variables.specs.{declared.lending.MediumFound.MediumFound, Variables.Media, Variables.Reference, Variables.Lendable, Variables.handed_by, Variables.handed_of, Held.medium_found}
 use Rattle.trace_text.specs.Follow.{Course, Ask, after_move, encode_of, result_of, media_by}
 
 -- a call of a caller, what it makes of all, and what the caller is answered
@@ -26,11 +25,11 @@ asked v who k place x error callers codecs m slots made went left at shown noted
 -- ---- what is handed
 
 -- what is open and refused is kept
-kept_of : (number : ℕ) (b : Bool) (shape : SoundShape) (held : Option MediaRef) → sound_found (Some (record { shape = shape; held = held })) ≡ SoundFound.Open → is_some (if b then None else Some DomError.InvalidState) ≡ true → handed_by number b shape held ≡ refused_as false
+kept_of : (number : ℕ) (b : Bool) (shape : MediaShape) (held : Option Reference) → medium_found (Some (record { shape = shape; held = held })) ≡ MediumFound.Open → is_some (if b then None else Some DomError.InvalidState) ≡ true → handed_by number b shape held ≡ refused_as false
 kept_of number false shape (Some r) is refused = refl
 kept_of number b shape held is refused = absurd cc
 
-pub hands_kept : (v : Course) (k : ℕ) (o : Option Sound) → sound_found o ≡ SoundFound.Open → is_some (encode_error false (state_of (codec_at k v.codecs)).control) ≡ true
+pub hands_kept : (v : Course) (k : ℕ) (o : Option Lendable) → medium_found o ≡ MediumFound.Open → is_some (encode_error false (state_of (codec_at k v.codecs)).control) ≡ true
     → option_map (encode_of v.media.pool (codec_at k v.codecs)) o ≡ Some (Call.Encode (refused_as false))
 hands_kept v k None is refused = absurd cc
 hands_kept v k (Some s) is refused = ap (λ h. Some (Call.Encode h)) (kept_of (references_made v.media.pool) (is_configured (state_of (codec_at k v.codecs)).control) s.shape s.held is refused)
@@ -39,7 +38,7 @@ accepted_is : (b : Bool) → ◌≡◌ {A = Option DomError} (if b then None els
 accepted_is true h = refl
 accepted_is false h = absurd cc
 
-pub hands_clone : (v : Course) (k : ℕ) (o : Option Sound) (x : HeldSound) → sound_found o ≡ SoundFound.Open → encode_error false (state_of (codec_at k v.codecs)).control ≡ None
+pub hands_clone : (v : Course) (k : ℕ) (o : Option Lendable) (x : HeldMedium) → medium_found o ≡ MediumFound.Open → encode_error false (state_of (codec_at k v.codecs)).control ≡ None
     → IfSome o (λ s. handed_of (references_made v.media.pool) true s ≡ Handed.Cloned x)
     → option_map (encode_of v.media.pool (codec_at k v.codecs)) o ≡ Some (Call.Encode (Handed.Cloned x))
 hands_clone v k None x is accepted clones = absurd cc

@@ -7,12 +7,12 @@ ghost use Rattle.codec_model.specs.declared.entry.Call.TheVariants.{Decode, Enco
 ghost use Rattle.codec_model.specs.Held.{adds_held};
 ghost use Rattle.codec_model.specs.Replay.{may_call, encode_error, refused_as};
 ghost use Rattle.media_accounts.specs.Accounts.{AreLent};
-ghost use Rattle.media_variables.specs.Held.{sound_found, pair_of as the_pair_of};
-ghost use Rattle.media_variables.specs.declared.lending.SoundFound.TheVariants as found;
+ghost use Rattle.media_variables.specs.Held.{medium_found};
+ghost use Rattle.media_variables.specs.declared.lending.MediumFound.TheVariants as found;
 ghost use Rattle.order_laws.specs.Course.{held_by_codecs};
 ghost use Rattle.script_types.specs.Names.{taken_from};
 ghost use Rattle.script_types.specs.declared.steps.Step.TheVariants as a_step;
-ghost use Rattle.media_variables.specs.Variables.{Brought, media_came, sound_at, taken_came, variables_of};
+ghost use Rattle.media_variables.specs.Variables.{Brought, media_came, lendable_at, taken_came, variables_of};
 ghost use Rattle.trace_text.specs.Follow.{Ask, with_result, after_move, advance, chunk_for, item_entry, call_move, encode_of, handle_move, media_move, take_move, found_at, look_of_flush, look_of_state, promise_after, step_move, follow_item, steps_of, source_error};
 ghost use Rattle.report_text.specs.declared.result.StepResult.TheVariants as came;
 ghost use Rattle.script_types.specs.declared.script.OrderItem.TheVariants as item;
@@ -23,9 +23,9 @@ use crate::copied::copied_chunk;
 use crate::desk::{Answer, Desk, Output};
 use crate::moving::{call_at, desk_at, place_at, refusal_at, take_at};
 use crate::results::{Results, made_by, note, result_of};
-use codec_model::{Call, Handed, HeldSound, Pair, PromiseState};
+use codec_model::{Call, Handed, PromiseState};
 use coder_api::Coder;
-use media_variables::{CallerMedia, SoundFound};
+use media_variables::{CallerMedia, MediumFound};
 use script_types::{ChunkSource, MediaStep, OrderItem, ScriptData, Step};
 use slot_registry::Slots;
 use std::alloc::Global;
@@ -33,7 +33,6 @@ use std::marker::Model;
 use trace_text::{StepResult, find_chunk, steps_of};
 use wc_base::{By, DomError, List, NoMemory, Who};
 use wc_chunk::Chunk;
-use wc_pool::MediaRef;
 
 /// The codecs, each caller's results so far, the callers' media, and the registry of the boxes.
 #[derive(Drop)]
@@ -144,16 +143,6 @@ fn unit_result(codec: u32, place: u64, number: u64) -> StepResult
         codec,
         place,
         number,
-    }
-}
-
-/// The numbers of a reference.
-fn pair_of(held: &MediaRef) -> Pair
-    ensures { result ≡ the_pair_of held.now }
-{
-    Pair {
-        resource: held.resource(),
-        reference: held.number(),
     }
 }
 
@@ -292,16 +281,16 @@ impl<C: Coder> Player<C> {
         self.call(who, codec, Call::Encode(Handed::of_refused(detached)))
     }
 
-    /// An encode that the codec accepts: it holds one reference more to the variable's audio data from now on.
+    /// An encode that the codec accepts: it holds one reference more to the variable's medium from now on.
     fn lend(&mut self, who: Who, codec: u32, content: u32) -> Result<(), NoMemory>
         requires codec { codec < length self.old.codecs }
         requires accepted { let control = (state_of (codec_at codec self.old.codecs)).control in
             encode_error false control ≡ None }
         requires open { let vs = variables_of who.caller self.old.media.variables in
-            sound_found (sound_at vs content) ≡ found.Open }
+            medium_found (lendable_at vs content) ≡ found.Open }
         requires givable { AreGivable self.old.codecs self.old.slots.history }
         ensures { let d = codec_at codec self.old.codecs in
-            let x = sound_at (variables_of who.caller self.old.media.variables) content in
+            let x = lendable_at (variables_of who.caller self.old.media.variables) content in
             OnOk result
             (self.new
             ≡ after_move
@@ -309,9 +298,8 @@ impl<C: Coder> Player<C> {
     {
         let place = place_at(&self.desks, codec);
         let cause = By::Codec { codec, place };
-        let (samples, held) = self.media.lend(cause, who.caller, content)?;
-        let pair = pair_of(&held);
-        let call = Call::Encode(Handed::Cloned(HeldSound { samples, pair }));
+        let (medium, held) = self.media.lend(cause, who.caller, content)?;
+        let call = Call::Encode(Handed::Cloned(medium));
         let Player {
             desks,
             callers,
@@ -322,16 +310,16 @@ impl<C: Coder> Player<C> {
         note(callers, who.caller, call_result(codec, answer))
     }
 
-    /// An encode of audio data that is not detached.
+    /// An encode of a medium that is not detached.
     fn hand(&mut self, who: Who, codec: u32, content: u32) -> Result<(), NoMemory>
         requires codec { codec < length self.old.codecs }
         requires open { let vs = variables_of who.caller self.old.media.variables in
-            sound_found (sound_at vs content) ≡ found.Open }
+            medium_found (lendable_at vs content) ≡ found.Open }
         requires givable { AreGivable self.old.codecs self.old.slots.history }
         requires lent { AreLent self.old.media.pool self.old.media.variables
             (held_by_codecs self.old.codecs) }
         ensures { let d = codec_at codec self.old.codecs in
-            let x = sound_at (variables_of who.caller self.old.media.variables) content in
+            let x = lendable_at (variables_of who.caller self.old.media.variables) content in
             OnOk result
             (self.new
             ≡ after_move
@@ -343,23 +331,23 @@ impl<C: Coder> Player<C> {
         }
     }
 
-    /// An encode of the audio data that the variable holds, unless it is absent.
+    /// An encode of the medium that the variable holds, unless it is absent.
     fn encode(&mut self, who: Who, codec: u32, content: u32) -> Result<(), NoMemory>
         requires codec { codec < length self.old.codecs }
         requires givable { AreGivable self.old.codecs self.old.slots.history }
         requires lent { AreLent self.old.media.pool self.old.media.variables
             (held_by_codecs self.old.codecs) }
         ensures { let d = codec_at codec self.old.codecs in
-            let x = sound_at (variables_of who.caller self.old.media.variables) content in
+            let x = lendable_at (variables_of who.caller self.old.media.variables) content in
             OnOk result
             (self.new
             ≡ after_move
             (call_move who codec (option_map (encode_of self.old.media.pool d) x)) self.old) }
     {
-        match self.media.find_sound(who.caller, content) {
-            SoundFound::Absent => self.answer(who, StepResult::Absent),
-            SoundFound::Detached => self.refuse(who, codec, true),
-            SoundFound::Open => self.hand(who, codec, content),
+        match self.media.find_medium(who.caller, content) {
+            MediumFound::Absent => self.answer(who, StepResult::Absent),
+            MediumFound::Detached => self.refuse(who, codec, true),
+            MediumFound::Open => self.hand(who, codec, content),
         }
     }
 

@@ -36,21 +36,21 @@ pub enum CoderKind {
     FlacDecoder,
     FlacEncoder,
     RawVideo(PictureFormat),
+    RawVideoEncoder(PictureFormat),
 }
 
-/// The coder of a role and a codec: each codec has an arm here. Only encoders of raw video have none, since no config asks
-/// for one.
-pub fn kind_of(role: Role, codec: CodecId) -> Option<CoderKind> {
+/// The coder of a role and a codec: each codec has an arm here.
+pub fn kind_of(role: Role, codec: CodecId) -> CoderKind {
     match codec {
-        CodecId::PcmU8 => Some(CoderKind::Samples(Coding::Pcm(SampleSize::One))),
-        CodecId::PcmS16 => Some(CoderKind::Samples(Coding::Pcm(SampleSize::Two))),
-        CodecId::PcmS24 => Some(CoderKind::Samples(Coding::Pcm(SampleSize::Three))),
-        CodecId::PcmS32 => Some(CoderKind::Samples(Coding::Pcm(SampleSize::Four))),
-        CodecId::Alaw => Some(CoderKind::Samples(Coding::G711(Law::Alaw))),
-        CodecId::Ulaw => Some(CoderKind::Samples(Coding::G711(Law::Ulaw))),
+        CodecId::PcmU8 => CoderKind::Samples(Coding::Pcm(SampleSize::One)),
+        CodecId::PcmS16 => CoderKind::Samples(Coding::Pcm(SampleSize::Two)),
+        CodecId::PcmS24 => CoderKind::Samples(Coding::Pcm(SampleSize::Three)),
+        CodecId::PcmS32 => CoderKind::Samples(Coding::Pcm(SampleSize::Four)),
+        CodecId::Alaw => CoderKind::Samples(Coding::G711(Law::Alaw)),
+        CodecId::Ulaw => CoderKind::Samples(Coding::G711(Law::Ulaw)),
         CodecId::Flac => match role {
-            Role::Decode => Some(CoderKind::FlacDecoder),
-            Role::Encode => Some(CoderKind::FlacEncoder),
+            Role::Decode => CoderKind::FlacDecoder,
+            Role::Encode => CoderKind::FlacEncoder,
         },
         CodecId::RawI420 => raw_video(role, PictureFormat::I420),
         CodecId::RawI422 => raw_video(role, PictureFormat::I422),
@@ -59,11 +59,10 @@ pub fn kind_of(role: Role, codec: CodecId) -> Option<CoderKind> {
     }
 }
 
-// Raw video is decoded alone.
-fn raw_video(role: Role, format: PictureFormat) -> Option<CoderKind> {
+fn raw_video(role: Role, format: PictureFormat) -> CoderKind {
     match role {
-        Role::Decode => Some(CoderKind::RawVideo(format)),
-        Role::Encode => None,
+        Role::Decode => CoderKind::RawVideo(format),
+        Role::Encode => CoderKind::RawVideoEncoder(format),
     }
 }
 
@@ -92,6 +91,12 @@ macro_rules! coder_box {
             }
             $crate::codecs::CoderKind::RawVideo(format) => {
                 match Box::new($alloc, raw_video::RawVideo::new(format)) {
+                    Ok(coder) => coder_api::CoderBox::of(coder),
+                    Err(_) => $stop,
+                }
+            }
+            $crate::codecs::CoderKind::RawVideoEncoder(format) => {
+                match Box::new($alloc, raw_video::RawVideoEncoder::new(format)) {
                     Ok(coder) => coder_api::CoderBox::of(coder),
                     Err(_) => $stop,
                 }

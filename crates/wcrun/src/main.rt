@@ -32,6 +32,8 @@ mod take_rows;
 #[cfg(test)]
 mod tests;
 #[cfg(test)]
+mod video_encode_rows;
+#[cfg(test)]
 mod video_rows;
 
 pub use calls::top;
@@ -73,9 +75,7 @@ fn carry_out<S: Sink>(rt: &HostRuntime, words: &[String], sink: &mut S) -> u8 {
     for role in [Role::Decode, Role::Encode] {
         for _ in 0..BOXES {
             for codec in all_codecs() {
-                let Some(kind) = kind_of(role, *codec) else {
-                    continue;
-                };
+                let kind = kind_of(role, *codec);
                 let coder = coder_box!(alloc, role, kind, return want_memory(sink));
                 if coders.push(coder).is_err() {
                     return want_memory(sink);

@@ -137,10 +137,8 @@ pub(crate) fn call_on(
             if matches!(codec, CodecId::Alaw) {
                 continue;
             }
-            if let Some(kind) = kind_of(role, *codec) {
-                let coder = coder_box!(alloc, role, kind, Err(NoMemory)?);
-                coders.push(coder)?;
-            }
+            let coder = coder_box!(alloc, role, kind_of(role, *codec), Err(NoMemory)?);
+            coders.push(coder)?;
         }
     }
     let status = top(alloc, &given, &mut files, &mut sink, coders);

@@ -1,7 +1,7 @@
 use Rattle.std.proofs.Common.{◌≡◌, ◌≤◌, ◌<◌, List, Option, IfOk, length, refl, sym, subst, arith}
-use Rattle.media_variables.specs.declared.lending.SoundFound.TheVariants as found
-use Rattle.media_variables.specs.Variables.{Medium, sound_at}
-use Rattle.media_variables.specs.Held.{sound_found, IsLent}
+use Rattle.media_variables.specs.declared.lending.MediumFound.TheVariants as found
+use Rattle.media_variables.specs.Variables.{Medium, lendable_at}
+use Rattle.media_variables.specs.Held.{medium_found, IsLent}
 use Rattle.media_variables.proofs.HeldLaws.{caller_live}
 use Rattle.media_variables.proofs.LendLaws.{lent_held, lent_apart, none_open}
 use Rattle.media_variables.proofs.Places.{variables_read}
@@ -14,7 +14,7 @@ lend-requires-clause-open c =
     let there = c.in-Some.ensures in
     let lt : c.args.caller < length all.items = omega (arith, all.ok.0, there.variant.0 refl) in
     let read = variables_read c.args.caller all.items c.in-Some.variables.now lt there.value in
-    subst (λ (l : List (Option Medium)). sound_found (sound_at l c.args.variable) ≡ found.Open) read c.requires.open
+    subst (λ (l : List (Option Medium)). medium_found (lendable_at l c.args.variable) ≡ found.Open) read c.requires.open
 
 pub lend-requires-clause-live : goal.lend-requires-clause-live
 lend-requires-clause-live c =
@@ -35,7 +35,7 @@ returns-clause-ok c =
     let there = c.in-Some.ensures in
     let lt : c.args.caller < length all.items = omega (arith, all.ok.0, there.variant.0 refl) in
     let read = variables_read c.args.caller all.items c.in-Some.variables.now lt there.value in
-    subst (λ (l : List (Option Medium)). IfOk c.lend.result (IsLent c.args.by c.args.pool.now c.lend.new.pool (sound_at l c.args.variable))) (sym read) c.lend.ensures.ok
+    subst (λ (l : List (Option Medium)). IfOk c.lend.result (IsLent c.args.by c.args.pool.now c.lend.new.pool (lendable_at l c.args.variable))) (sym read) c.lend.ensures.ok
 
 pub returns-clause-held : goal.returns-clause-held
 returns-clause-held c =

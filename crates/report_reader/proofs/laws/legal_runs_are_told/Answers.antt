@@ -8,8 +8,8 @@ returns c =
       fill = c.legal_histories_follow.ensures.fills;
       kinds = c.outputs_are_of_their_kind.ensures;
       lines = c.legal_runs_fit.ensures;
-      kept = c.samples_are_kept.ensures.sounds;
-      taken = c.samples_are_kept.ensures.chunks;
+      kept = c.contents_are_kept.ensures.media;
+      taken = c.contents_are_kept.ensures.chunks;
     } in
     let told = legal_told laws in
     record {

@@ -6,5 +6,5 @@ use Rattle.shared_codec.proofs.encodes.encode_clone.Goals as goal
 
 pub returns-in-Err-Some-clause-encoded : goal.returns-in-Err-Some-clause-encoded
 returns-in-Err-Some-clause-encoded g c =
-    not_kept c.args.codec c.args.pool.now c.args.core.now c.call.new.self c.args.who c.args.samples c.args.medium.now c.in_ok-clone.clone c.in-Err-Some.clone c.look-place.result.0 (is_some c.end.result) _ c.args.seat.now.me.0 c.clone_ref.new.seat.me.0 c.end.new.seat.me.0
+    not_kept c.args.codec c.args.pool.now c.args.core.now c.call.new.self c.args.who c.args.content c.args.medium.now c.in_ok-clone.clone c.in-Err-Some.clone c.look-place.result.0 (is_some c.end.result) _ c.args.seat.now.me.0 c.clone_ref.new.seat.me.0 c.end.new.seat.me.0
     c.requires.accepted (c.look-place.ensures.entries ∙ ap (λ (x : Codec). length x.history) c.core.ensures) c.in-Err-Some.ensures.err (sym c.in-Err-Some.field-0-is ∙ c.in-Err-Some.ensures.back) c.in_ok-clone.ensures.made c.end.ensures.ended

@@ -1,0 +1,76 @@
+// The bytes of chunks.
+ghost use Rattle.std.specs.Prelude.{◌≡◌, ◌∷◌, [], true, length, IfOk, IfSome, IfNone, unwrap_or};
+ghost use Rattle.codec_definitions.specs.RawVideoEncoder.{coded_bytes, less_bytes};
+
+use bytes::Bytes;
+use std::alloc::Global;
+use wc_base::NoMemory;
+
+/// The bytes of a picture's chunk: a key chunk, or one that is added to the last picture.
+pub(crate) fn coded_bytes(
+    alloc: Global,
+    key: bool,
+    last: &Option<Bytes>,
+    picture: &Bytes,
+) -> Result<Bytes, NoMemory>
+    requires first { IfNone last.now (key ≡ true) }
+    requires size { IfSome last.now (λ p. length p ≡ length picture.now) }
+    ensures { IfOk result (λ b. b ≡ coded_bytes key (unwrap_or last.now []) picture.now) }
+{
+    if key {
+        return key_bytes(alloc, picture.as_slice());
+    }
+    match last {
+        Some(last) => delta_bytes(alloc, last.as_slice(), picture.as_slice()),
+        None => unreachable!(),
+    }
+}
+
+/// A byte 0 and the picture.
+fn key_bytes(alloc: Global, picture: &[u8]) -> Result<Bytes, NoMemory>
+    ensures { IfOk result (λ b. b ≡ 0 ∷ picture.now) }
+{
+    shared(behind(alloc, 0, picture)?)
+}
+
+/// A byte 1 and the picture less the last one.
+fn delta_bytes(alloc: Global, last: &[u8], picture: &[u8]) -> Result<Bytes, NoMemory>
+    requires { length last.now ≡ length picture.now }
+    ensures { IfOk result (λ b. b ≡ 1 ∷ less_bytes picture.now last.now) }
+{
+    let mut bytes = behind(alloc, 1, picture)?;
+    subtract(&mut bytes[1..], last);
+    shared(bytes)
+}
+
+/// A picture behind the byte that says its kind.
+fn behind(alloc: Global, kind: u8, picture: &[u8]) -> Result<Vec<u8>, NoMemory>
+    ensures { IfOk result (λ v. v.items ≡ kind ∷ picture.now) }
+{
+    let mut bytes = Vec::new(alloc);
+    bytes.reserve(picture.len().saturating_add(1))?;
+    if bytes.push(kind).is_err() {
+        return Err(NoMemory);
+    }
+    bytes.extend_from_slice(picture)?;
+    Ok(bytes)
+}
+
+fn shared(bytes: Vec<u8>) -> Result<Bytes, NoMemory>
+    ensures { IfOk result (λ b. b ≡ bytes.items) }
+{
+    match Bytes::from_vec(bytes) {
+        Ok(bytes) => Ok(bytes),
+        Err(_) => Err(NoMemory),
+    }
+}
+
+/// Takes from each byte the one at its place, modulo 256.
+fn subtract(to: &mut [u8], last: &[u8])
+    requires { length to.old ≡ length last.now }
+    ensures { to.new ≡ less_bytes to.old last.now }
+{
+    for i in 0..to.len() {
+        to[i] = to[i].wrapping_sub(last[i]);
+    }
+}
