@@ -4,3 +4,5 @@ pub mod Desks
 pub mod DeskLaws
 pub mod Rests
 pub mod RestLaws
+pub mod Runs
+pub mod RunLaws

@@ -4,6 +4,7 @@ ghost use Rattle.flush_promise.specs.Promises.{EndsAs};
 ghost use Rattle.codec_desk.specs.Desks.{SitAt, Settled};
 ghost use Rattle.codec_desk.specs.Each.{IsAt};
 ghost use Rattle.codec_desk.specs.Rests.{Looked};
+ghost use Rattle.codec_desk.specs.Runs.{EachRunsNone};
 
 use crate::clock::Clock;
 use crate::desk::{Desk, Seats};
@@ -29,6 +30,8 @@ pub fn await_helping<C: Coder, K: Clock, R: Wait>(
     requires codec { codec < length desk.now.codecs.items }
     ensures sits { SitAt desk.now seats.new }
     ensures settled { Settled desk.now seats.old seats.new }
+    ensures runs { EachRunsNone desk.now.codecs.items seats.old.codecs.items
+        → EachRunsNone desk.now.codecs.items seats.new.codecs.items }
     ensures ended { IsAt codec (Looked (EndsAs promise result))
         desk.now.codecs.items seats.old.codecs.items seats.new.codecs.items }
 {

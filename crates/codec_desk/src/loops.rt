@@ -2,6 +2,7 @@
 ghost use Rattle.codec_desk.specs.Desks.{SitAt, Settled};
 ghost use Rattle.codec_desk.specs.Each.{Each};
 ghost use Rattle.codec_desk.specs.Rests.{Looked, NoItem, NoTask};
+ghost use Rattle.codec_desk.specs.Runs.{EachRunsNone};
 
 use crate::clock::Clock;
 use crate::desk::{Desk, Seats};
@@ -25,6 +26,8 @@ pub fn item_loop<C: Coder, K: Clock, R: Wait>(
     requires { SitAt desk.now seats.old }
     ensures sits { SitAt desk.now seats.new }
     ensures settled { Settled desk.now seats.old seats.new }
+    ensures runs { EachRunsNone desk.now.codecs.items seats.old.codecs.items
+        → EachRunsNone desk.now.codecs.items seats.new.codecs.items }
     ensures looked { Each (Looked NoItem)
         desk.now.codecs.items seats.old.codecs.items seats.new.codecs.items }
 {
@@ -51,6 +54,8 @@ pub fn turn_loop<C: Coder, R: Wait>(
     requires { SitAt desk.now seats.old }
     ensures sits { SitAt desk.now seats.new }
     ensures settled { Settled desk.now seats.old seats.new }
+    ensures runs { EachRunsNone desk.now.codecs.items seats.old.codecs.items
+        → EachRunsNone desk.now.codecs.items seats.new.codecs.items }
     ensures looked { Each (Looked NoTask)
         desk.now.codecs.items seats.old.codecs.items seats.new.codecs.items }
 {

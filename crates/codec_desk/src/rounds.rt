@@ -3,6 +3,7 @@ ghost use Rattle.std.specs.Prelude.{◌≡◌, false, None};
 ghost use Rattle.codec_desk.specs.Desks.{SitAt, Settled};
 ghost use Rattle.codec_desk.specs.Each.{Each};
 ghost use Rattle.codec_desk.specs.Rests.{Rested, NoItem, NoTask};
+ghost use Rattle.codec_desk.specs.Runs.{EachRunsNone};
 
 use crate::clock::Clock;
 use crate::desk::{Desk, Seats};
@@ -30,6 +31,8 @@ pub fn item_round<C: Coder, K: Clock, R: Wait>(
     requires { SitAt desk.now seats.old }
     ensures sits { SitAt desk.now seats.new }
     ensures settled { Settled desk.now seats.old seats.new }
+    ensures runs { EachRunsNone desk.now.codecs.items seats.old.codecs.items
+        → EachRunsNone desk.now.codecs.items seats.new.codecs.items }
     ensures rested { result ≡ false → Each (Rested NoItem)
         desk.now.codecs.items seats.old.codecs.items seats.new.codecs.items }
 {
@@ -48,6 +51,8 @@ pub fn turn_round<C: Coder, R: Wait>(rt: &R, desk: &Desk<C>, seats: &mut Seats<C
     requires { SitAt desk.now seats.old }
     ensures sits { SitAt desk.now seats.new }
     ensures settled { Settled desk.now seats.old seats.new }
+    ensures runs { EachRunsNone desk.now.codecs.items seats.old.codecs.items
+        → EachRunsNone desk.now.codecs.items seats.new.codecs.items }
     ensures rested { result ≡ false → Each (Rested NoTask)
         desk.now.codecs.items seats.old.codecs.items seats.new.codecs.items }
 {

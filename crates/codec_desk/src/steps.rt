@@ -6,6 +6,7 @@ ghost use Rattle.shared_codec.specs.Settled.{AnswerTells, TurnOnceTells};
 ghost use Rattle.shared_codec.specs.Workers.{WorkTells};
 ghost use Rattle.codec_desk.specs.Desks.{SitAt, Settled};
 ghost use Rattle.codec_desk.specs.Each.{OneAt};
+ghost use Rattle.codec_desk.specs.Runs.{EachRunsNone};
 
 use crate::desk::{Desk, Seats};
 use codec_model::{Call, PromiseState};
@@ -33,6 +34,8 @@ pub fn work_item<C: Coder, R: Wait>(
         (λ s a b. WorkTells s desk.now.slots moment result a b seats.old.slots.me.0)
         desk.now.codecs.items seats.old.codecs.items seats.new.codecs.items }
     ensures settled { Settled desk.now seats.old seats.new }
+    ensures runs { EachRunsNone desk.now.codecs.items seats.old.codecs.items
+        → EachRunsNone desk.now.codecs.items seats.new.codecs.items }
 {
     dues_add_up();
     desk.codecs[codec].work_once(
@@ -63,6 +66,8 @@ pub fn call_once<C: Coder, R: Wait>(
     ensures called { OneAt codec (λ s a b. AnswerTells s who call result a b)
         desk.now.codecs.items seats.old.codecs.items seats.new.codecs.items }
     ensures settled { Settled desk.now seats.old seats.new }
+    ensures runs { EachRunsNone desk.now.codecs.items seats.old.codecs.items
+        → EachRunsNone desk.now.codecs.items seats.new.codecs.items }
 {
     dues_add_up();
     desk.codecs[codec].call_once(
@@ -91,6 +96,8 @@ pub fn turn_once<C: Coder, R: Wait>(
     ensures turned { OneAt codec (λ s a b. TurnOnceTells s result a b)
         desk.now.codecs.items seats.old.codecs.items seats.new.codecs.items }
     ensures settled { Settled desk.now seats.old seats.new }
+    ensures runs { EachRunsNone desk.now.codecs.items seats.old.codecs.items
+        → EachRunsNone desk.now.codecs.items seats.new.codecs.items }
 {
     dues_add_up();
     desk.codecs[codec].turn_once(
@@ -117,6 +124,8 @@ pub fn promise_state<C: Coder, R: Wait>(
     ensures looked { OneAt codec (λ s a b. EndTells s promise result a b)
         desk.now.codecs.items seats.old.codecs.items seats.new.codecs.items }
     ensures settled { Settled desk.now seats.old seats.new }
+    ensures runs { EachRunsNone desk.now.codecs.items seats.old.codecs.items
+        → EachRunsNone desk.now.codecs.items seats.new.codecs.items }
 {
     dues_add_up();
     desk.codecs[codec].end_of(rt, &mut seats.codecs[codec], promise)

@@ -5,7 +5,7 @@ use Rattle.codec_desk.proofs.Going.{saw_earlier}
 use Rattle.codec_desk.proofs.helping.await_helping.Goals as goal
 
 pub loop-init : goal.loop-init
-loop-init g c = (tt, tt, c.requires.sits, settled_none c.args.desk.now c.args.seats.now c.requires.sits)
+loop-init g c = (tt, tt, c.requires.sits, settled_none c.args.desk.now c.args.seats.now c.requires.sits, λ none. none)
 
 pub promise_state-state-requires-clause-sits : goal.promise_state-state-requires-clause-sits
 promise_state-state-requires-clause-sits g c κs within = c.loop.invariant.2
@@ -26,6 +26,7 @@ loop-preserved g c =
           (settled_then desk c.args.seats.now c.promise_state-state.new.seats c.work_item.new.seats
           (settled_then desk c.args.seats.now c.loop.seats c.promise_state-state.new.seats c.loop.invariant.3 c.promise_state-state.ensures.settled)
           c.work_item.ensures.settled) c.turn_once.ensures.settled,
+      λ none. c.turn_once.ensures.runs (c.work_item.ensures.runs (c.promise_state-state.ensures.runs (c.loop.invariant.4 none))),
     )
 
 pub returns-in-Some-of-clause-sits : goal.returns-in-Some-of-clause-sits
@@ -38,3 +39,6 @@ pub returns-in-Some-of-clause-ended : goal.returns-in-Some-of-clause-ended
 returns-in-Some-of-clause-ended g c =
     saw_earlier c.args.codec c.args.promise c.promise_state-state.result c.in-Some-of.end c.args.desk.now.codecs.items c.args.seats.now.codecs.items c.loop.seats.codecs.items c.promise_state-state.new.seats.codecs.items
     (sym (ap state_of c.in-Some-of.is) ∙ c.of.ensures) c.loop.invariant.3.seats c.promise_state-state.ensures.looked
+
+pub returns-in-Some-of-clause-runs : goal.returns-in-Some-of-clause-runs
+returns-in-Some-of-clause-runs g c none = c.promise_state-state.ensures.runs (c.loop.invariant.4 none)

@@ -10,6 +10,7 @@ pub loop-codec-init : goal.loop-codec-init
 loop-codec-init g c = record {
   sits = c.requires;
   settled = settled_none c.args.desk.now c.args.seats.now c.requires;
+  runs = λ none. none;
   end = c.len-codec-end.ensures ∙ c.args.desk.now.codecs.ok.0;
   below = omega arith;
   rested = λ none. round_none NoItem c.args.desk.now.pool c.args.desk.now.slots.id c.args.desk.now.codecs.items c.args.seats.now.codecs.items c.requires.codecs;
@@ -32,6 +33,7 @@ loop-codec-preserved g c =
     record {
       sits = e.sits;
       settled = settled_then c.args.desk.now c.args.seats.now c.loop-codec.seats c.work_item-worked.new.seats i.settled e.settled;
+      runs = λ none. e.runs (i.runs none);
       end = i.end;
       below = omega (arith, lt);
       rested = λ none. (let n = c.found_or-found.ensures none in
@@ -52,3 +54,6 @@ returns-clause-rested g c =
     let end = i.end in
     let below = i.below in
     λ none. round_all NoItem c.loop-codec.codec c.args.desk.now.codecs.items c.args.seats.now.codecs.items c.loop-codec.seats.codecs.items (omega (arith, over, end, below)) (i.rested none)
+
+pub returns-clause-runs : goal.returns-clause-runs
+returns-clause-runs g c = c.loop-codec.invariant.runs

@@ -1,7 +1,9 @@
 use Rattle.std.proofs.Common.{◌≡◌, Some, refl, length, vec_len, arith}
 use Rattle.std.specs.Prelude.{slice_get}
 use Rattle.std.proofs.lemmas.Option.{slice_get_read}
+use Rattle.shared_codec.specs.Settled.{AnswerTells}
 use Rattle.codec_desk.specs.DeskLaws.{settled_one, sit_after}
+use Rattle.codec_desk.specs.RunLaws.{none_at, none_answered}
 use Rattle.codec_desk.proofs.Going.{sit_length, sit_get}
 use Rattle.codec_desk.proofs.steps.call_once.Goals as goal
 
@@ -70,3 +72,7 @@ returns-clause-sits g c =
     sit_after c.args.desk.now c.args.seats.now _ c.requires.sits
     (settled_one c.args.desk.now c.args.seats.now _ c.args.codec c.index.result.now c.index_mut.result.now c.call_once.new.seat c.dues_add_up.ensures.slots c.dues_add_up.ensures.media c.requires.sits codec_is seat_is refl
     c.call_once.ensures.kept c.call_once.ensures.kept_slots c.call_once.ensures.kept_pool c.call_once.ensures.settles) c.call_once.ensures.free_pool c.call_once.ensures.free_slots
+
+pub returns-clause-runs : goal.returns-clause-runs
+returns-clause-runs g c none =
+    none_at (λ s a b. AnswerTells s c.args.who c.args.call c.call_once.result a b) (λ s a b told. none_answered s c.args.who c.args.call c.call_once.result a b told) c.args.codec c.args.desk.now.codecs.items c.args.seats.now.codecs.items _ (returns-clause-called g c) none

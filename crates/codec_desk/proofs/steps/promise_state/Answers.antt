@@ -1,7 +1,9 @@
 use Rattle.std.proofs.Common.{◌≡◌, Some, refl, length, vec_len, arith}
 use Rattle.std.specs.Prelude.{slice_get}
 use Rattle.std.proofs.lemmas.Option.{slice_get_read}
+use Rattle.shared_codec.specs.Looks.{EndTells}
 use Rattle.codec_desk.specs.DeskLaws.{settled_one, sit_after}
+use Rattle.codec_desk.specs.RunLaws.{none_at, none_seen}
 use Rattle.codec_desk.proofs.Going.{sit_length, sit_get}
 use Rattle.shared_codec.specs.Keeps.{keeps_none}
 use Rattle.shared_codec.specs.Settles.{settles_rest}
@@ -58,3 +60,7 @@ returns-clause-sits g c =
     (settled_one c.args.desk.now c.args.seats.now _ c.args.codec c.index.result.now c.index_mut.result.now c.end_of.new.seat c.dues_add_up.ensures.slots c.dues_add_up.ensures.media c.requires.sits codec_is seat_is refl
     c.end_of.ensures.kept (keeps_none c.args.desk.now.slots.id c.args.seats.now.slots c.requires.sits.slots.0) (keeps_none c.args.desk.now.pool c.args.seats.now.pool c.requires.sits.pool.0)
     (settles_rest c.index.result.now c.index_mut.result.now.me.0 c.end_of.new.seat.me.0 c.args.seats.now.slots.me.0 c.args.seats.now.pool.me.0 c.end_of.ensures.owes)) c.requires.sits.pool c.requires.sits.slots
+
+pub returns-clause-runs : goal.returns-clause-runs
+returns-clause-runs g c none =
+    none_at (λ s a b. EndTells s c.args.promise c.end_of.result a b) (λ s a b told. none_seen s c.args.promise c.end_of.result a b told) c.args.codec c.args.desk.now.codecs.items c.args.seats.now.codecs.items _ (returns-clause-looked g c) none

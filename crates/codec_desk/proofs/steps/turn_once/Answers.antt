@@ -1,7 +1,9 @@
 use Rattle.std.proofs.Common.{◌≡◌, Some, refl, length, vec_len, arith}
 use Rattle.std.specs.Prelude.{slice_get}
 use Rattle.std.proofs.lemmas.Option.{slice_get_read}
+use Rattle.shared_codec.specs.Settled.{TurnOnceTells}
 use Rattle.codec_desk.specs.DeskLaws.{settled_one, sit_after}
+use Rattle.codec_desk.specs.RunLaws.{none_at, none_turned}
 use Rattle.codec_desk.proofs.Going.{sit_length, sit_get}
 use Rattle.codec_desk.proofs.steps.turn_once.Goals as goal
 
@@ -70,3 +72,7 @@ returns-clause-sits g c =
     sit_after c.args.desk.now c.args.seats.now _ c.requires.sits
     (settled_one c.args.desk.now c.args.seats.now _ c.args.codec c.index.result.now c.index_mut.result.now c.turn_once.new.seat c.dues_add_up.ensures.slots c.dues_add_up.ensures.media c.requires.sits codec_is seat_is refl
     c.turn_once.ensures.kept c.turn_once.ensures.kept_slots c.turn_once.ensures.kept_pool c.turn_once.ensures.settles) c.turn_once.ensures.free_pool c.turn_once.ensures.free_slots
+
+pub returns-clause-runs : goal.returns-clause-runs
+returns-clause-runs g c none =
+    none_at (λ s a b. TurnOnceTells s c.turn_once.result a b) (λ s a b told. none_turned s c.turn_once.result a b told) c.args.codec c.args.desk.now.codecs.items c.args.seats.now.codecs.items _ (returns-clause-turned g c) none

@@ -1,0 +1,19 @@
+use Rattle.std.proofs.Common.{ℕ, ◌≡◌, ◌+◌, length}
+use Rattle.std.specs.Vec.Iter.{into_iter_items, into_iter_len}
+use Rattle.codec_desk.specs.Desks.{SitAt}
+use Rattle.codec_desk.specs.Runs.{EachRunsNone}
+use Rattle.desk_threads.specs.Accounts.{Balanced}
+use Rattle.desk_threads.specs.Parts.{HaveParts}
+use Rattle.desk_threads.proofs.Joining.{AllReady}
+use Rattle.desk_threads.proofs.jobs.join_jobs.Given as goal
+
+-- the seats of the first jobs were joined
+abbrev pub invariant-loop-job : goal.invariant-loop-job
+invariant-loop-job g l = record {
+  long : into_iter_len l.job-iterator ≡ length (into_iter_items l.job-iterator);
+  sits : SitAt l.fn.desk l.seats;
+  parts : (n : ℕ) → HaveParts n l.fn.seats → (m : ℕ) × (m + length (into_iter_items l.job-iterator) ≡ n + length l.fn.jobs.items) × HaveParts m l.seats;
+  balanced : Balanced l.fn.desk l.fn.seats → Balanced l.fn.desk l.seats;
+  runs : EachRunsNone l.fn.desk.codecs.items l.fn.seats.codecs.items → EachRunsNone l.fn.desk.codecs.items l.seats.codecs.items;
+  rest : AllReady l.fn.desk (into_iter_items l.job-iterator);
+}

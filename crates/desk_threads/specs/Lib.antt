@@ -1,0 +1,9 @@
+pub mod Parts
+pub mod PartLaws
+pub mod Accounts
+pub mod MadeLaws
+pub mod AccountLaws
+pub mod Jobs
+pub mod Rested
+pub mod Runs
+pub mod RunLaws

@@ -1,0 +1,22 @@
+// Laws of the accounts of threads, and of desks with nothing left to do.
+ghost use Rattle.desk_threads.specs.Accounts.{AccountsBegin, AccountsAreKept, AccountsAreHistories};
+ghost use Rattle.desk_threads.specs.Runs.{RestIsQuiet};
+
+use coder_api::Coder;
+use shared_codec::dues_add_up;
+
+/// Law: the account of seats that have seen nothing is balanced, and it stays so whatever a thread settles. Of seats that have all
+/// passages the registry's history is what the codecs' logs call for, and so is what the pool's made for codecs.
+pub fn accounts_are_kept<C: Coder>()
+    ensures first { AccountsBegin C }
+    ensures kept { AccountsAreKept C }
+    ensures all { AccountsAreHistories C }
+{
+    dues_add_up();
+}
+
+/// Law: where one thread has all seats of a desk, none of its own items is at work, and it found nothing to do, each codec is
+/// quiet: no item is at work, none may start, and no event task is queued.
+pub fn rest_is_quiet<C: Coder>()
+    ensures { RestIsQuiet C }
+{}

@@ -1,0 +1,42 @@
+// All that is left to do on a desk.
+ghost use Rattle.std.specs.Prelude.{◌≡◌, false};
+ghost use Rattle.codec_desk.specs.Desks.{SitAt, Settled};
+ghost use Rattle.codec_desk.specs.Runs.{EachRunsNone};
+ghost use Rattle.desk_threads.specs.Rested.{CameToRest};
+
+use codec_desk::{Clock, Desk, Seats, item_round, turn_round};
+use coder_api::Coder;
+use std::alloc::Global;
+use std::sync::Wait;
+
+// Whether a round found something.
+fn either(worked: bool, turned: bool) -> bool
+    ensures { result ≡ false → (worked ≡ false) × (turned ≡ false) }
+{
+    worked || turned
+}
+
+/// Rounds of work and of turns over all codecs, until one of each finds nothing. Once no other thread has a seat, all is done.
+pub fn settle_desk<C: Coder, K: Clock, R: Wait>(
+    rt: &R,
+    alloc: Global,
+    desk: &Desk<C>,
+    seats: &mut Seats<C>,
+    clock: &mut K,
+)
+    requires { SitAt desk.now seats.old }
+    ensures sits { SitAt desk.now seats.new }
+    ensures settled { Settled desk.now seats.old seats.new }
+    ensures runs { EachRunsNone desk.now.codecs.items seats.old.codecs.items
+        → EachRunsNone desk.now.codecs.items seats.new.codecs.items }
+    ensures rested { CameToRest desk.now seats.old seats.new }
+{
+    for _ in rt.forever() {
+        let worked = item_round(rt, alloc, desk, seats, clock);
+        let turned = turn_round(rt, desk, seats);
+        if !either(worked, turned) {
+            return;
+        }
+    }
+    unreachable!()
+}
