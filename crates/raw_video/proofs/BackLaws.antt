@@ -1,7 +1,7 @@
 -- Pictures that are coded come back.
-use Rattle.std.proofs.Common.{ℕ, zero, suc, ◌≡◌, ◌<◌, ◌+◌, ◌-◌, ◌%◌, ◌==◌, ◌||◌, ◌&&◌, Bool, true, false, cond, List, [], ◌∷◌, ◌++◌, length, drop, map, get_or, refl, ap, sym, subst, ◌∙◌, lit<, arith}
+use Rattle.std.proofs.Common.{ℕ, zero, suc, ◌≡◌, ◌<◌, ◌+◌, ◌-◌, ◌%◌, ◌==◌, ◌||◌, ◌&&◌, Bool, true, false, cond, List, [], ◌∷◌, ◌++◌, length, map, get_or, refl, ap, sym, subst, ◌∙◌, lit<, arith}
 use Rattle.std.specs.Prelude.{not, Option, Some, None, IfSome, unwrap_or}
-use Rattle.std.specs.List.{All, range_with_len, last_or}
+use Rattle.std.specs.List.{All, last_or}
 use Rattle.std.proofs.lemmas.Bool.{eqb-true, eq-eqb}
 use Rattle.std.proofs.lemmas.List.{ext_get_or}
 use Rattle.std.proofs.lemmas.List.Elements.{All-head, All-tail}
@@ -23,7 +23,7 @@ use Rattle.codec_definitions.specs.declared.unit.Unit.TheVariants as unit_of
 use Rattle.codec_definitions.specs.declared.command.Command.{Command}
 use Rattle.codec_definitions.specs.declared.command.Command.TheVariants as command
 use Rattle.codec_definitions.specs.Answers.{answer_after, answers_from, until_refused, is_refused_in}
-use Rattle.codec_definitions.specs.RawVideo.{picture_format, shape_in, raw_shape, chunks_since_drain, is_key, is_whole_chunk, last_picture, picture_unit, raw_units}
+use Rattle.codec_definitions.specs.RawVideo.{raw_shape, chunks_since_drain, is_key, is_whole_chunk, last_picture, picture_unit, raw_units}
 use Rattle.codec_definitions.specs.RawVideoEncoder.{coded_shape, coded_bytes, is_format, is_key_due, is_picture_taken, less_bytes, picture_chunks, pictures_since_drain}
 use Rattle.raw_video.specs.Value.{AreBytes, added, picture_after}
 use Rattle.raw_video.specs.Back.{PicturesComeBack, IsOfBytes, all_passed_on, comes_back, decodes, encodes}

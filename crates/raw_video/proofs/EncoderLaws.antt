@@ -1,5 +1,5 @@
 -- What the encoder's commands give by the codec's definition.
-use Rattle.std.proofs.Common.{ℕ, ◌≡◌, ◌<◌, ◌≤◌, ◌+◌, ◌-◌, ◌%◌, ◌==◌, ◌||◌, ◌&&◌, Bool, true, false, cond, List, [], ◌∷◌, ◌++◌, length, length-append, refl, ap, sym, subst, ◌∙◌, arith}
+use Rattle.std.proofs.Common.{ℕ, ◌≡◌, ◌<◌, ◌+◌, ◌%◌, ◌==◌, ◌||◌, ◌&&◌, Bool, true, false, cond, List, [], ◌∷◌, ◌++◌, length, length-append, refl, ap, sym, subst, ◌∙◌, arith}
 use Rattle.std.specs.Prelude.{not, is_none, Option, Some, None, IfNone, Ok}
 use Rattle.std.specs.List.{last_or}
 use Rattle.std.proofs.Math.Nat.{mod-add-mod, mod-mod, mod-lt, mod-eq_of_lt, mod_self, zero-mod}
@@ -12,7 +12,6 @@ use Rattle.picture_planes.specs.Planes.{picture_size}
 use Rattle.wc_config.specs.declared.config.Config.{Config}
 use Rattle.wc_config.specs.declared.config.Config.TheVariants as config
 use Rattle.codec_definitions.specs.declared.unit.Unit as unit
-use Rattle.codec_definitions.specs.declared.unit.Unit.TheVariants as unit_of
 use Rattle.codec_definitions.specs.declared.command.Command.{Command}
 use Rattle.codec_definitions.specs.declared.command.Command.TheVariants as command
 use Rattle.codec_definitions.specs.Answers.{answer_after}
@@ -24,8 +23,7 @@ use Rattle.coder_api.specs.Meaning.{CoderState, NothingKept, Configured, IsConfi
 use Rattle.raw_video.specs.declared.encoder.Setting.{Setting}
 use Rattle.raw_video.specs.declared.encoder.Setting.TheVariants as setting
 use Rattle.raw_video.specs.declared.encoder.Encoding.{Encoding}
-use Rattle.raw_video.specs.Encoder.{encoder_id, meaning_of, IsCoding, is_key_next, units_next, with_picture, answer_in, after, GivesUnits}
-use Rattle.raw_video.specs.Value.{codec_of}
+use Rattle.raw_video.specs.Encoder.{encoder_id, meaning_of, IsCoding, is_key_next, units_next, answer_in, after, GivesUnits}
 
 pub last_more : (o : Option (List ℕ)) (xs : List (List ℕ)) (x : List ℕ) → last_or o (xs ++ x ∷ []) ≡ Some x
 last_more o [] x = refl

@@ -2,3 +2,4 @@ mod BackLaws
 mod CoderLaws
 mod EncoderLaws
 mod PictureLaws
+mod PieceLaws

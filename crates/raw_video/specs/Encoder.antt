@@ -1,5 +1,5 @@
 -- The encoder of raw video as contracts see it.
-use Rattle.std.specs.Prelude.{ℕ, ◌≡◌, ◌==◌, ◌+◌, ◌||◌, ◌&&◌, not, Bool, true, List, [], ◌∷◌, ◌++◌, length, Option, Some, None, IfSome, IfNone, is_none, unwrap_or, Result, Ok, Err, if◌then◌else◌}
+use Rattle.std.specs.Prelude.{ℕ, ◌≡◌, ◌==◌, ◌+◌, ◌||◌, ◌&&◌, not, Bool, List, [], ◌∷◌, ◌++◌, length, Option, Some, None, IfSome, IfNone, is_none, unwrap_or, Result, Ok, Err, if◌then◌else◌}
 use Rattle.wc_base.specs.declared.media.Picture.{Picture}
 use Rattle.wc_base.specs.declared.media.PictureFormat.{PictureFormat}
 use Rattle.picture_planes.specs.Planes.{picture_size}

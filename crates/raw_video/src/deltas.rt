@@ -1,5 +1,5 @@
 // The bytes of chunks.
-ghost use Rattle.std.specs.Prelude.{◌≡◌, ◌∷◌, [], true, length, IfOk, IfSome, IfNone, unwrap_or};
+ghost use Rattle.std.specs.Prelude.{◌≡◌, ◌<◌, ◌≤◌, ◌∷◌, ◌++◌, [], true, length, IfOk, IfSome, IfNone, unwrap_or};
 ghost use Rattle.codec_definitions.specs.RawVideoEncoder.{coded_bytes, less_bytes};
 
 use bytes::Bytes;
@@ -38,20 +38,71 @@ fn delta_bytes(alloc: Global, last: &[u8], picture: &[u8]) -> Result<Bytes, NoMe
     requires { length last.now ≡ length picture.now }
     ensures { IfOk result (λ b. b ≡ 1 ∷ less_bytes picture.now last.now) }
 {
-    let mut bytes = behind(alloc, 1, picture)?;
-    subtract(&mut bytes[1..], last);
+    let mut bytes = room_behind(alloc, 1, picture.len())?;
+    append_less(&mut bytes, picture, last)?;
     shared(bytes)
+}
+
+/// How many bytes are copied before they are subtracted from: a piece that is still in the cache then.
+const PIECE: usize = 16_384;
+
+/// Appends a picture less the last one, piece by piece.
+fn append_less(bytes: &mut Vec<u8>, picture: &[u8], last: &[u8]) -> Result<(), NoMemory>
+    requires { length last.now ≡ length picture.now }
+    ensures { IfOk result (λ _. bytes.new.items
+        ≡ bytes.old.items ++ less_bytes picture.now last.now) }
+{
+    let mut from = 0;
+    while from < picture.len() {
+        let to = end_of_piece(from, picture.len());
+        append_piece(bytes, &picture[from..to], &last[from..to])?;
+        from = to;
+    }
+    Ok(())
+}
+
+/// Where a piece ends that begins there.
+fn end_of_piece(from: usize, size: usize) -> usize
+    requires { from < size }
+    ensures more { from < result }
+    ensures within { result ≤ size }
+{
+    if size - from > PIECE {
+        from + PIECE
+    } else {
+        size
+    }
+}
+
+/// Appends one piece of it.
+fn append_piece(bytes: &mut Vec<u8>, picture: &[u8], last: &[u8]) -> Result<(), NoMemory>
+    requires { length last.now ≡ length picture.now }
+    ensures { IfOk result (λ _. bytes.new.items
+        ≡ bytes.old.items ++ less_bytes picture.now last.now) }
+{
+    let start = bytes.len();
+    bytes.extend_from_slice(picture)?;
+    subtract(&mut bytes[start..], last);
+    Ok(())
+}
+
+/// The byte that says a chunk's kind, with room for so many behind it.
+fn room_behind(alloc: Global, kind: u8, count: usize) -> Result<Vec<u8>, NoMemory>
+    ensures { IfOk result (λ v. v.items ≡ kind ∷ []) }
+{
+    let mut bytes = Vec::new(alloc);
+    bytes.reserve(count.saturating_add(1))?;
+    if bytes.push(kind).is_err() {
+        return Err(NoMemory);
+    }
+    Ok(bytes)
 }
 
 /// A picture behind the byte that says its kind.
 fn behind(alloc: Global, kind: u8, picture: &[u8]) -> Result<Vec<u8>, NoMemory>
     ensures { IfOk result (λ v. v.items ≡ kind ∷ picture.now) }
 {
-    let mut bytes = Vec::new(alloc);
-    bytes.reserve(picture.len().saturating_add(1))?;
-    if bytes.push(kind).is_err() {
-        return Err(NoMemory);
-    }
+    let mut bytes = room_behind(alloc, kind, picture.len())?;
     bytes.extend_from_slice(picture)?;
     Ok(bytes)
 }
