@@ -1,5 +1,5 @@
 // The bytes of chunks.
-ghost use Rattle.std.specs.Prelude.{◌≡◌, ◌<◌, ◌≤◌, ◌∷◌, ◌++◌, [], true, length, IfOk, IfSome, IfNone, unwrap_or};
+ghost use Rattle.std.specs.Prelude.{◌≡◌, ◌<◌, ◌≤◌, ◌+◌, ◌∷◌, ◌++◌, [], true, length, IfOk, IfSome, IfNone, unwrap_or};
 ghost use Rattle.codec_definitions.specs.RawVideoEncoder.{coded_bytes, less_bytes};
 
 use bytes::Bytes;
@@ -39,23 +39,29 @@ fn delta_bytes(alloc: Global, last: &[u8], picture: &[u8]) -> Result<Bytes, NoMe
     ensures { IfOk result (λ b. b ≡ 1 ∷ less_bytes picture.now last.now) }
 {
     let mut bytes = room_behind(alloc, 1, picture.len())?;
-    append_less(&mut bytes, picture, last)?;
+    append_less(alloc, &mut bytes, picture, last)?;
     shared(bytes)
 }
 
-/// How many bytes are copied before they are subtracted from: a piece that is still in the cache then.
-const PIECE: usize = 16_384;
+/// How many bytes are subtracted before they are copied: a piece that is in the nearest cache then.
+const PIECE: usize = 4096;
 
 /// Appends a picture less the last one, piece by piece.
-fn append_less(bytes: &mut Vec<u8>, picture: &[u8], last: &[u8]) -> Result<(), NoMemory>
+fn append_less(
+    alloc: Global,
+    bytes: &mut Vec<u8>,
+    picture: &[u8],
+    last: &[u8],
+) -> Result<(), NoMemory>
     requires { length last.now ≡ length picture.now }
     ensures { IfOk result (λ _. bytes.new.items
         ≡ bytes.old.items ++ less_bytes picture.now last.now) }
 {
+    let mut room = vec![in alloc; 0; PIECE]?;
     let mut from = 0;
     while from < picture.len() {
         let to = end_of_piece(from, picture.len());
-        append_piece(bytes, &picture[from..to], &last[from..to])?;
+        append_piece(bytes, &mut room, &picture[from..to], &last[from..to])?;
         from = to;
     }
     Ok(())
@@ -66,6 +72,7 @@ fn end_of_piece(from: usize, size: usize) -> usize
     requires { from < size }
     ensures more { from < result }
     ensures within { result ≤ size }
+    ensures piece { result ≤ from + 4096 }
 {
     if size - from > PIECE {
         from + PIECE
@@ -74,15 +81,22 @@ fn end_of_piece(from: usize, size: usize) -> usize
     }
 }
 
-/// Appends one piece of it.
-fn append_piece(bytes: &mut Vec<u8>, picture: &[u8], last: &[u8]) -> Result<(), NoMemory>
-    requires { length last.now ≡ length picture.now }
-    ensures { IfOk result (λ _. bytes.new.items
+/// Appends one piece of it, by a room to work in.
+fn append_piece(
+    bytes: &mut Vec<u8>,
+    room: &mut Vec<u8>,
+    picture: &[u8],
+    last: &[u8],
+) -> Result<(), NoMemory>
+    requires same { length last.now ≡ length picture.now }
+    requires within { length picture.now ≤ length room.old.items }
+    ensures long { length room.new.items ≡ length room.old.items }
+    ensures items { IfOk result (λ _. bytes.new.items
         ≡ bytes.old.items ++ less_bytes picture.now last.now) }
 {
-    let start = bytes.len();
-    bytes.extend_from_slice(picture)?;
-    subtract(&mut bytes[start..], last);
+    let piece = &mut room[..picture.len()];
+    subtract(piece, picture, last);
+    bytes.extend_from_slice(piece)?;
     Ok(())
 }
 
@@ -116,12 +130,13 @@ fn shared(bytes: Vec<u8>) -> Result<Bytes, NoMemory>
     }
 }
 
-/// Takes from each byte the one at its place, modulo 256.
-fn subtract(to: &mut [u8], last: &[u8])
-    requires { length to.old ≡ length last.now }
-    ensures { to.new ≡ less_bytes to.old last.now }
+/// Writes each byte less the one at its place, modulo 256.
+fn subtract(to: &mut [u8], picture: &[u8], last: &[u8])
+    requires long { length to.old ≡ length picture.now }
+    requires same { length last.now ≡ length picture.now }
+    ensures { to.new ≡ less_bytes picture.now last.now }
 {
     for i in 0..to.len() {
-        to[i] = to[i].wrapping_sub(last[i]);
+        to[i] = picture[i].wrapping_sub(last[i]);
     }
 }

@@ -4,6 +4,7 @@ use Rattle.raw_video.proofs.deltas.append_less.Given as goal
 
 abbrev pub invariant-loop-from : goal.invariant-loop-from
 invariant-loop-from l = record {
+  room : 4096 ≤ length l.room.items;
   within : l.from ≤ length l.picture;
   written : l.bytes.items ≡ l.fn.bytes.items ++ less_bytes (take l.from l.picture) (take l.from l.last);
 }
