@@ -1,11 +1,11 @@
 -- What is known of the references of a step that was read.
-use Rattle.std.proofs.Common.{◌≡◌, ℕ, codes, Bool, true, ◌&&◌, List, Option, Some, None, Result, Ok, Err, IfOk, refl, ap, sym, subst, ◌∙◌, arith}
+use Rattle.std.proofs.Common.{◌≡◌, ℕ, codes, Bool, true, ◌&&◌, List, Option, Result, Ok, Err, IfOk, refl, subst, ◌∙◌, arith}
 use Rattle.serde_json.specs.Data.{Data}
 use Rattle.wc_config.specs.declared.kind.Kind.{Kind}
 use Rattle.script_types.specs.declared.{script.CodecItem.CodecItem, steps.Step.Step, steps.VariableKind.VariableKind, found.FoundCodec.FoundCodec}
 use Rattle.chunk_files.specs.declared.fault.Stop.{Stop}
-use Rattle.script_types.specs.{declared.fault.Wrong.Wrong, Names.codec_named, Names.variable_named, Names.is_medium}
-use Rattle.script_types.specs.Sound.{encodes, takes, is_codec, any_kind, is_found, is_variable, is_free}
+use Rattle.script_types.specs.{declared.fault.Wrong.Wrong, Names.codec_named, Names.is_medium}
+use Rattle.script_types.specs.Sound.{encodes, takes, is_codec, any_kind, is_variable, is_free}
 use Rattle.script_steps.specs.Members.{and_then, known, name_in}
 use Rattle.script_steps.specs.{declared.references.Needed.Needed, Chains.all_true, Chains.known_some}
 use Rattle.script_steps.specs.References.{is_right, unused, codec_if, variable_if, variable_in, on_of, bound_on, given_to, encoded_by, encoded_by_kind, encoded_data, bound_from}

@@ -1,8 +1,8 @@
 -- What a step that was read holds is within its types.
-use Rattle.std.proofs.Common.{◌≡◌, ◌<◌, ◌^◌, ℕ, ℤ, pos, negsuc, codes, Bool, true, false, nat_lt, if◌then◌else◌, List, Option, Some, None, option_and_then, option_map, Result, Ok, Err, IfOk, refl, arith}
+use Rattle.std.proofs.Common.{◌≡◌, ◌<◌, ◌^◌, ℕ, ℤ, pos, negsuc, codes, Bool, true, false, if◌then◌else◌, List, Option, Some, None, option_and_then, option_map, Result, Ok, Err, IfOk, refl, arith}
 use Rattle.std.specs.Option.{IfSome}
 use Rattle.std.specs.Int.Signed.{mag}
-use Rattle.std.proofs.lemmas.Result.{IfOk-at_ok, IfOk-weaker}
+use Rattle.std.proofs.lemmas.Result.{IfOk-at_ok}
 use Rattle.hex.specs.Hex.{IsBytes, decode_of}
 use Rattle.hex.specs.declared.error.FromHexError.{FromHexError}
 use Rattle.hex.proofs.HexLemmas.{decode_of-ok}
@@ -14,10 +14,10 @@ use Rattle.wc_config.specs.declared.kind.Kind.{Kind}
 use Rattle.chunk_files.specs.declared.fault.Stop.{Stop}
 use Rattle.script_types.specs.declared.{fault.Wrong.Wrong, script.CodecItem.CodecItem, steps.Step.Step, steps.MediaStep.MediaStep}
 use Rattle.script_types.specs.Names.{codec_named, decodes}
-use Rattle.script_steps.specs.Members.{and_then, needed as there, known, name_in, object_in, text_in, within, is_u32, is_integer, natural_of, signed_of, is_timestamp, is_duration, u32_of, timestamp_of, duration_of, decoded, hex_of, required, defaulted, optional, hex_if_there, word_of}
-use Rattle.script_steps.specs.ConfigRead.{codec_in, rate_in, channels_in, audio_decoder_with, flac_in, flac_number, audio_encoder_with, pixels_in, video_decoder_with, size_in, key_interval_in, video_encoder_with, config_of}
+use Rattle.script_steps.specs.Members.{and_then, needed as there, known, name_in, object_in, text_in, within, is_u32, is_integer, natural_of, signed_of, is_timestamp, is_duration, u32_of, timestamp_of, duration_of, decoded, required, defaulted, optional, hex_if_there, word_of}
+use Rattle.script_steps.specs.ConfigRead.{codec_in, rate_in, channels_in, audio_decoder_with, flac_in, flac_number, audio_encoder_with, pixels_in, video_decoder_with, size_in as pixel_size_in, key_interval_in, video_encoder_with, config_of}
 use Rattle.script_steps.specs.Media.{data_value, timestamp_in, duration_in, content_in, key_of, chunk_with, chunk_of, sample_format_of, sound_with, sound_of, picture_format_of, picture_with, picture_of}
-use Rattle.script_steps.specs.Sources.{has, index_in, made_of, source_by, source_of}
+use Rattle.script_steps.specs.Sources.{has, index_in, source_by, source_of}
 use Rattle.script_steps.specs.{declared.source.SourceWords.SourceWords, declared.words.StepWord.StepWord, declared.words.MediaWord.MediaWord, declared.references.Needed.Needed}
 use Rattle.script_steps.specs.References.{unused, variable_if, bound_on, given_to, encoded_data, bound_from, on_of, variable_in}
 use Rattle.script_steps.specs.MediaSteps.{size_in, options_in, media_by}
@@ -142,7 +142,7 @@ video_encoder_small (Some c) (Some w) None n p q r = tt
 video_encoder_small (Some c) None h n p q r = tt
 video_encoder_small None w h n p q r = tt
 
-size_small : (key : List ℕ) (d : Data) → IfOk (size_in key d) (λ r. IfSome r Is32Bits)
+size_small : (key : List ℕ) (d : Data) → IfOk (pixel_size_in key d) (λ r. IfSome r Is32Bits)
 size_small key d = required_if u32_of Is32Bits (get key d) u32_small
 
 config_small : (k : Kind) (d : Data) → IfOk (config_of k d) HasSmallNumbers
@@ -160,9 +160,9 @@ config_small Kind.VideoDecoder d =
     by_part (pixels_in (codes "displayAspectWidth") d) _ _ (λ aspect_width e. by_part (pixels_in (codes "displayAspectHeight") d) _ _ (λ aspect_height f.
     video_small codec width height aspect_width aspect_height (of _ (pixels_in (codes "codedWidth") d) width b (pixels_small (codes "codedWidth") d)) (of _ (pixels_in (codes "codedHeight") d) height c (pixels_small (codes "codedHeight") d)))))))
 config_small Kind.VideoEncoder d =
-    by_part (codec_in d) _ _ (λ codec a. by_part (size_in (codes "width") d) _ _ (λ width b. by_part (size_in (codes "height") d) _ _ (λ height c.
+    by_part (codec_in d) _ _ (λ codec a. by_part (pixel_size_in (codes "width") d) _ _ (λ width b. by_part (pixel_size_in (codes "height") d) _ _ (λ height c.
     by_part (key_interval_in d) _ _ (λ key_interval e.
-    video_encoder_small codec width height key_interval (of _ (size_in (codes "width") d) width b (size_small (codes "width") d)) (of _ (size_in (codes "height") d) height c (size_small (codes "height") d))
+    video_encoder_small codec width height key_interval (of _ (pixel_size_in (codes "width") d) width b (size_small (codes "width") d)) (of _ (pixel_size_in (codes "height") d) height c (size_small (codes "height") d))
     (of _ (key_interval_in d) key_interval e (defaulted_if 0 u32_of Is32Bits (get (codes "keyInterval") d) (omega arith) u32_small))))))
 
 -- ---- inits

@@ -1,5 +1,5 @@
 -- What a step that was read holds is within the types that carry it (our choice: 32 and 64 bits, and bytes).
-use Rattle.std.specs.Prelude.{◌≡◌, ◌<◌, ◌^◌, ℕ, List, Option, Some, None, Ok}
+use Rattle.std.specs.Prelude.{◌≡◌, ◌<◌, ◌^◌, ℕ, List, Ok}
 use Rattle.std.specs.Option.{IfSome}
 use Rattle.std.specs.Int.Signed.{mag}
 use Rattle.hex.specs.Hex.{IsBytes}
