@@ -115,7 +115,7 @@ pub record IsStanding (steps : List Step) (results : List StepResult) (n j : ℕ
   pub given : is_given results j ≡ true
   pub gone : is_detached steps results n j ≡ is_none x.held
 
-medium_stands : (given gone : Bool) (j n : ℕ) (o : Option Medium) (x : Lendable) → IsAt given gone j n o → option_and_then sound_in o ≡ Some x → (given ≡ true) × (gone ≡ is_none x.held)
+medium_stands : (given gone : Bool) (j n : ℕ) (o : Option Medium) (x : Lendable) → IsAt given gone j n o → option_and_then lendable_in o ≡ Some x → (given ≡ true) × (gone ≡ is_none x.held)
 medium_stands given gone j n o x at lent = grind (arith, at, lent)
 
 -- ---- what is known of a run
@@ -135,7 +135,7 @@ module _ (s : ScriptData) (files : List (List Chunk)) (w : Recorded) (locals : L
       (ap (λ (o : Option StepResult). elim o [ None ↦ false | Some answer ↦ gives answer ]) here.1) (made_so n here.0 here.1) (all_steps n (omega (arith, le))))
 
   -- the results of a caller, up to a step that was made, tell of the media of its variables whether they are detached
-  pub stands : (n j : ℕ) (r : StepResult) (x : Lendable) → result_in w c n ≡ Some r → sound_at (variables_at s files w c n) j ≡ Some x → IsStanding (steps_of s c) (at c w.callers) n j x
+  pub stands : (n j : ℕ) (r : StepResult) (x : Lendable) → result_in w c n ≡ Some r → lendable_at (variables_at s files w c n) j ≡ Some x → IsStanding (steps_of s c) (at c w.callers) n j x
   stands n j r x there lent =
       let results = at c w.callers in
       let all = all_steps n (omega (arith, slice_get_within results n r there)) j in
