@@ -1,6 +1,5 @@
 -- The seats of jobs, joined.
-use Rattle.std.proofs.Common.{ℕ, suc, ◌≡◌, ◌+◌, ◌<◌, List, [], ◌∷◌, length, refl, get_or, arith}
-use Rattle.std.proofs.lemmas.Option.{slice_get_read}
+use Rattle.std.proofs.Common.{ℕ, suc, ◌≡◌, ◌+◌, List, [], ◌∷◌, length, refl, arith}
 use Rattle.codec_desk.specs.declared.desk.Desk.{Desk}
 use Rattle.desk_threads.specs.declared.jobs.Job.{Job}
 use Rattle.desk_threads.specs.Jobs.{IsReady, AreReady}
@@ -13,11 +12,6 @@ module _ {C K : Type 0} where
   pub all_ready : (desk : Desk C) (jobs : List (Job C K)) → AreReady desk jobs → AllReady desk jobs
   all_ready desk [] h = tt
   all_ready desk (j ∷ js) h = (h 0 j refl, all_ready desk js (λ i k at. h (suc i) k at))
-
-module _ {C K : Type 0} where
-  -- a job by its place
-  pub ready_at : (desk : Desk C) (jobs : List (Job C K)) (i : ℕ) (job : Job C K) → AreReady desk jobs → i < length jobs → job ≡ get_or jobs i job → IsReady desk job
-  ready_at desk jobs i job ready within is = ready i job (slice_get_read jobs (length jobs) i job refl within is)
 
 -- so many are left, and one part came
 pub parts_more : (m n l k r : ℕ) → m + k ≡ n + l → k ≡ suc r → (m + 1) + r ≡ n + l

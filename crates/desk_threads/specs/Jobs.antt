@@ -34,8 +34,3 @@ module _ {C K : Type 0} (desk : Desk C) where
 
   abbrev pub AreReady : List (Job C K) → Type 0
   AreReady jobs = (i : ℕ) (job : Job C K) → slice_get jobs i ≡ Some job → IsReady job
-
-  -- each job was done, at its place
-  pub record AreDone (were jobs : List (Job C K)) : Type 0 where
-    pub many : length jobs ≡ length were
-    pub each : (i : ℕ) (was job : Job C K) → slice_get were i ≡ Some was → slice_get jobs i ≡ Some job → IsDone was job

@@ -3,7 +3,7 @@ ghost use Rattle.std.specs.Prelude.{ℕ, ◌+◌, length};
 ghost use Rattle.codec_desk.specs.Desks.{SitAt};
 ghost use Rattle.codec_desk.specs.Runs.{EachRunsNone};
 ghost use Rattle.desk_threads.specs.Accounts.{Balanced};
-ghost use Rattle.desk_threads.specs.Jobs.{IsReady, IsDone, AreReady, AreDone};
+ghost use Rattle.desk_threads.specs.Jobs.{IsReady, IsDone, AreReady};
 ghost use Rattle.desk_threads.specs.Parts.{HaveParts};
 
 use crate::parts::join_seats;
@@ -12,8 +12,6 @@ use coder_api::Coder;
 use std::alloc::Global;
 use std::sync::Wait;
 use std::sync::atomic::AtomicU64;
-use std::thread;
-use std::thread::Threads;
 
 /// What a thread does.
 #[derive(Clone, Copy, Debug, PartialEq, Eq)]
@@ -51,33 +49,6 @@ pub fn run_job<C: Coder, K: Clock, R: Wait>(
         }
         Role::Turner => turn_loop(rt, desk, &mut job.seats, callers),
     }
-}
-
-/// Does all jobs, each in a thread of its own where one can be made, and else one after the other. Each ends once a whole round
-/// that began with no caller left found nothing; `callers` counts the callers that still go on, and no clause rests on it. Turners
-/// and workers come first in the list: where a thread cannot be made, std runs the last half of it first.
-#[tactic(auto, using(crate::proofs::Joining::ready_at))]
-pub fn run_jobs<C: Coder, K: Clock + Send, R: Threads + Wait + Sync>(
-    rt: &R,
-    alloc: Global,
-    desk: &Desk<C>,
-    callers: &AtomicU64,
-    jobs: &mut [Job<C, K>],
-)
-    requires { AreReady desk.now jobs.old }
-    ensures ready { AreReady desk.now jobs.new }
-    ensures done { AreDone desk.now jobs.old jobs.new }
-{
-    if jobs.is_empty() {
-        return;
-    }
-    let threads = jobs.len();
-    let run = move |_place: usize, job: &mut Job<C, K>|
-        requires { IsReady desk.now job.now }
-        ensures ready { IsReady desk.entry.now job.exit.now }
-        ensures done { IsDone desk.entry.now job.entry.now job.exit.now }
-    { run_job(rt, alloc, desk, callers, job) };
-    thread::for_each_mut(rt, jobs, threads, &run);
 }
 
 /// Joins the seats of jobs into these, one after the other. It takes no memory.
