@@ -33,7 +33,7 @@ SCRIPT = """{"codecs":[
 "order":["a","a","a","a",{"start":"d"},{"done":"d","at":1},
   "a"]}
 """
-WORDS = "one of configure, chunk, decode, audio, frame, encode, flush, poll, await, reset, close, take, state, clone, transfer, close-data, copy, size is wanted"
+WORDS = "one of configure, chunk, decode, audio, frame, encode, flush, poll, await, reset, close, take, state, ground, clone, transfer, close-data, copy, size is wanted"
 NAME = "and a name has 1 to 32 of a to z, 0 to 9, _ and -"
 
 # What is changed in the script, from what to what; the line; the hint.

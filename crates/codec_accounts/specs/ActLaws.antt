@@ -110,6 +110,7 @@ each_makes = record {
   sent = λ who x w s m may e. stays_as _ s _ (sent_stays who x w s m) (same (sent_same w s.control _ (call_sends x w s.control m)) refl);
   removes_all = λ who x s is e. rw (removal_goes who x s is e) (by_removals (λ y. ActMakes (removal_act true) s (removed (accepted y s.control) s)) (record { running = refl; given = refl }, add-one s.control.epoch) (record { running = refl; given = refl }, add-one s.control.epoch) x is);
   takes = λ who unit s may. (record { running = refl; given = refl }, refl);
+  grounds = λ who to s. (record { running = refl; given = refl }, refl);
   start = λ i is epoch item s work may. start_makes i is s work (begins_free epoch item i s.control may);
   done = λ r e epoch item moment o s running own is. (ap is_some running, end_runs r e moment (at_next_place s.control));
   turn = λ x ts s first. subst (λ (l : List Task). ActMakes (removal_act (closes_codec l)) s (task_ran x ts s)) (sym first) (task_makes x ts s);

@@ -11,7 +11,7 @@ use Rattle.codec_model.specs.declared.entry.{CodecState.CodecState, Opening.Open
 use Rattle.codec_model.specs.declared.entry.CodecState.TheVariants.{Unconfigured, Configured, Closed}
 use Rattle.codec_model.specs.declared.entry.{Handed.Handed, Work.Work, Item.Item, Running.Running, Task.Task}
 use Rattle.codec_model.specs.{declared.entry.Ended.Ended, ShownLaws.replay_more}
-use Rattle.codec_model.specs.Control.{Control, process, with_message, at_next_place, is_close, turn_closes, run_task, run_front, kind_of, after_done, done_running, after_end, after_turn, after_close, after_reset, may_reclaim, front, may_start, start_item, after_start, after_take, may_take}
+use Rattle.codec_model.specs.Control.{Control, process, with_message, at_next_place, is_close, turn_closes, run_task, run_front, kind_of, after_done, done_running, after_end, after_turn, after_close, after_reset, may_reclaim, front, may_start, start_item, after_start, after_take, may_take, after_ground}
 use Rattle.codec_model.specs.Replay.{State, Given, missing_coder, opening_state, step, with_control, removed, after_call, call_error, may_call, message_of, sends, removes, takes, accepted, config_asked, coder_wanted, serves_too}
 use Rattle.codec_model.specs.StepLaws.{by_items, by_removals, begun, start_made, asked, call_sends, closed_refuses, senders_stay}
 use Rattle.codec_core.specs.Job.{DoneValue, missing_for, CoderAt, CoderFor, StillAt, IsEndOf, IsJobOf, outcome_of, holds}
@@ -202,21 +202,21 @@ removal_moved slot who x s is e home = by_removals (λ y. call_error y s.control
     (λ none. removed_moved slot (Entry.Call who Call.Reset) s (after_reset (at_next_place s.control)) Unconfigured refl (omega (arith, open_phase true s.control.phase none)) (rw none refl) home)
     (λ none. removed_moved slot (Entry.Call who Call.Close) s (after_close (at_next_place s.control)) Closed refl (omega arith) (rw none refl) home) x is e
 
--- a call that sends no message and takes nothing is refused, or removes
-removes_else : (x : Call) (c : Control) → sends x ≡ false → takes x ≡ false → call_error x c ≡ None → removes x ≡ true
-removes_else Call.Reset c s t e = refl
-removes_else Call.Close c s t e = refl
-removes_else (Call.Encode (Handed.Cloned medium)) c s t e = absurd cc
-removes_else (Call.Encode Handed.Gone) c s t e = absurd cc
-removes_else (Call.Encode Handed.Kept) c s t e = absurd cc
-removes_else x c s t e = absurd cc
+-- a call that sends no message and takes nothing is refused, or removes, or tells where the codec is at work
+made_else : (slot : Option Lent) (who : Who) (x : Call) (s : State) → sends x ≡ false → takes x ≡ false → call_error x s.control ≡ None → CoderHome slot s → Moved (kept_box (not (removes x && true)) slot) (Entry.Call who x) s (accepted x s.control)
+made_else slot who Call.Reset s sends takes e home = removal_moved slot who Call.Reset s refl e home
+made_else slot who Call.Close s sends takes e home = removal_moved slot who Call.Close s refl e home
+made_else slot who (Call.Ground to) s sends takes e home = moved_by slot (Entry.Call who (Call.Ground to)) s (after_ground to (at_next_place s.control)) s.control.phase s.control.taken refl (omega arith) (λ none. refl) refl home
+made_else slot who (Call.Encode (Handed.Cloned medium)) s sends takes e home = absurd cc
+made_else slot who (Call.Encode Handed.Gone) s sends takes e home = absurd cc
+made_else slot who (Call.Encode Handed.Kept) s sends takes e home = absurd cc
+made_else slot who x s sends takes e home = absurd cc
 
 made_moved : (slot : Option Lent) (who : Who) (x : Call) (s : State) → sends x ≡ false → takes x ≡ false → may_call x s.control ≡ true → (o : Option DomError) → call_error x s.control ≡ o → CoderHome slot s → Moved (kept_box (not (removes x && is_none o)) slot) (Entry.Call who x) s (after_call o x s.control)
 made_moved slot who x s sends takes may (Some error) e home =
     let m = refused_moved slot who x error s may e home in
     elim (removes x) as (λ b. Moved (kept_box (not (b && false)) slot) (Entry.Call who x) s (at_next_place s.control)) [ true ↦ m | false ↦ m ]
-made_moved slot who x s sends takes may None e home =
-    let is = removes_else x s.control sends takes e in rw is (removal_moved slot who x s is e home)
+made_moved slot who x s sends takes may None e home = made_else slot who x s sends takes e home
 
 -- ---- removals
 

@@ -25,7 +25,7 @@ use segmented_list::{Segment, SegmentedList};
 use std::alloc::Global;
 use std::marker::Model;
 use std::mem;
-use wc_base::{DomError, NoMemory, Who};
+use wc_base::{DomError, Ground, NoMemory, Who};
 
 /// One codec: its state machine, the history of its entries with what each of them showed, and the box that it holds while
 /// no item is at work.
@@ -175,6 +175,29 @@ impl<C: Coder> Core<C> {
         }
     }
 
+    /// Where the codec is at work.
+    pub fn ground(&self) -> Ground
+        ensures { result ≡ (state_at self.now).control.own_ground }
+    {
+        self.machine.ground()
+    }
+
+    /// What the codec is.
+    pub fn kind(&self) -> Kind
+        ensures { result ≡ self.now.opening.kind }
+    {
+        self.machine.opening().kind
+    }
+
+    /// What decides over a reclaim: the progress, where the codec is at work, and what it is.
+    pub fn holding(&self) -> (Option<u64>, Ground, Kind)
+        ensures progress { result.0 ≡ progress_of (state_at self.now).control }
+        ensures at { result.1 ≡ (state_at self.now).control.own_ground }
+        ensures kind { result.2 ≡ self.now.opening.kind }
+    {
+        (self.progress(), self.ground(), self.kind())
+    }
+
     /// The error with which an encode would be refused now: of detached data first.
     pub fn encode_refusal(&self, detached: bool) -> Option<DomError>
         ensures { result ≡ encode_error detached (state_at self.now).control }
@@ -202,8 +225,8 @@ impl<C: Coder> Core<C> {
         self.machine.taken()
     }
 
-    /// A call of a caller (W3C WebCodecs: `configure`, `decode`, `encode`, `flush`, `reset`, `close`; to take an output is
-    /// our choice). It has an entry, refused or not. A flush is never refused with an exception: its promise is rejected. An
+    /// A call of a caller (W3C WebCodecs: `configure`, `decode`, `encode`, `flush`, `reset`, `close`; to take an output, and to
+    /// tell the codec where it is at work, are our choice). It has an entry, refused or not. A flush is never refused with an exception: its promise is rejected. An
     /// encode says what becomes of its data, as `encode_refusal` tells; a take has the number of the next output. A call
     /// that sends a message takes all places that its later steps need; only such a call may want memory, and then nothing
     /// has changed. Any other takes one of the places that are kept.
@@ -419,8 +442,8 @@ impl<C: Coder> Core<C> {
     }
 
     /// The codec is reclaimed at a moment in microseconds: closed with `QuotaExceededError`. None exactly where that may
-    /// not be: it is not configured, no item of this epoch ended, or the last did less than ten seconds before; then
-    /// nothing has changed.
+    /// not be: it is not configured, no item of this epoch ended, or the last did less than ten seconds before and it is no
+    /// decoder in the background; then nothing has changed.
     pub fn reclaim(&mut self, now: u64) -> Option<Removed<C>>
         ensures none { IfNone result (may_reclaim now (state_at self.old).control ≡ false) }
         ensures same { IfNone result (self.new ≡ self.old) }

@@ -150,6 +150,7 @@ each_sound = record {
   sent = λ who x w s m may e h. sent_sound w s.control _ s.given s.running_given (call_sends x w s.control m) (sent_to x w s.control m may e) h;
   removes_all = λ who x s is e h. by_removals (λ y. Sound (removed (accepted y s.control) s)) (grind (arith, h)) (grind (arith, h)) x is;
   takes = λ who unit s may h. h;
+  grounds = λ who to s h. h;
   start = λ i is epoch item s first may h. started_sound i is epoch item s first may h;
   done = λ r e epoch item moment o s running own is h. done_sound r e o moment s running is h;
   turn = λ x ts s first h. task_sound x ts s h;

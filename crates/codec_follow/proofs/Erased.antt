@@ -10,7 +10,7 @@ use Rattle.wc_config.specs.{declared.config.AudioDecoderConfig.AudioDecoderConfi
 use Rattle.codec_definitions.specs.declared.unit.Unit as media
 use Rattle.codec_model.specs.declared.entry.{Call.Call, Entry.Entry, Handed.Handed, Work.Work, WorkKind.WorkKind}
 use Rattle.codec_model.specs.declared.entry.{Event.Event, Message.Message, Running.Running, Shown.Shown, Task.Task, Ended.Ended, Outcome.Outcome}
-use Rattle.codec_model.specs.Control.{Control, is_dequeue, is_desaturate, with_desaturate, is_taken, after_message, process_queue, at_next_place, run_task, done_running, after_reset, after_close, after_take, carried, active_after}
+use Rattle.codec_model.specs.Control.{Control, is_dequeue, is_desaturate, with_desaturate, is_taken, after_message, process_queue, at_next_place, run_task, done_running, after_reset, after_close, after_take, after_ground, carried, active_after}
 use Rattle.codec_model.specs.Replay.{State, Given, opening_state, replay, replay_from, step, ended_of, accepted, call_error, called, may_call, with_control, removed}
 use Rattle.codec_model.specs.Shown.{shows, outputs_from, turn_shows, shown_from, shown_at, each_shown_from, word_at, units_in, units_shown, outputs_of}
 use Rattle.codec_follow.specs.Follow.{blanks, ended_as, follow_step, follow_from, filled, filled_at, each_filled_from, each_filled}
@@ -109,6 +109,7 @@ each_erased = record {
   sent = λ who x w s m may e fine. called_erased who x s (with_control (accepted x s.control) s) may (rw (e, senders_stay x w m, accepted_erased x s.control) refl);
   removes_all = λ who x s is e fine. called_erased who x s (removed (accepted x s.control) s) (by_removals (λ y. may_call y s.control ≡ true) refl refl x is) (rw (e, is, accepted_erased x s.control) refl);
   takes = λ who unit s may fine. called_erased who (Call.Take unit) s (with_control (after_take (at_next_place s.control)) s) may refl;
+  grounds = λ who to s fine. called_erased who (Call.Ground to) s (with_control (after_ground to (at_next_place s.control)) s) refl refl;
   start = λ i is epoch item s first may fine. grind (arith, first, may);
   done = λ r e epoch item moment o s running own is fine. grind (arith, done_erased r e moment (at_next_place s.control), running, own, ends_erased, is, fine.flushed);
   turn = λ x ts s first fine. turn_erased x ts s first;

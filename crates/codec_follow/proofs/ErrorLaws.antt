@@ -47,6 +47,7 @@ each_fine = record {
   sent = λ who x w s m may e served fine. sent_fine w s.control _ (call_sends x w s.control m) fine;
   removes_all = λ who x s is e served fine. by_removals (λ y. AllFine (accepted y s.control).tasks) (grind (arith, sum_by_push, dequeues_fine s.control.tasks)) (grind (arith, sum_by_push, dequeues_fine s.control.tasks)) x is;
   takes = λ who unit s may served fine. fine;
+  grounds = λ who to s served fine. fine;
   start = λ i is epoch item s first may served fine. fine;
   -- an item that was served ran, or memory was wanted
   done = λ r e epoch item moment o s running own is served fine. grind (arith, sum_by_push, running, served, is, fine);

@@ -1,6 +1,6 @@
 -- What is kept beside a codec's state of the entries since its last removal.
 use Rattle.std.proofs.Common.{ℕ, ◌≡◌, ◌+◌, true, eqb, cond, List, [], ◌∷◌, ◌++◌, length, append-nil, take, drop, Option, Some, None, is_some, refl, ap, ◌∙◌}
-use Rattle.wc_base.specs.{declared.error.DomError.DomError, declared.who.Who.Who}
+use Rattle.wc_base.specs.{declared.error.DomError.DomError, declared.who.Who.Who, declared.ground.Ground.Ground}
 use Rattle.codec_definitions.specs.declared.unit.Unit as media
 use Rattle.codec_model.specs.declared.entry.{WorkKind.WorkKind, Work.Work, Item.Item, Message.Message, Entry.Entry, Outcome.Outcome, Event.Event, Shown.Shown, Call.Call, Coded.Coded, Handed.Handed, Task.Task}
 use Rattle.codec_model.specs.Control.{Control, kind_of}
@@ -135,6 +135,9 @@ sent_course who y w s x m e = ap (λ (o : Option DomError). course_at (Entry.Cal
 
 pub take_course : (who : Who) (unit : ℕ) (s : State) (x : Course) → course_after (Entry.Call who (Call.Take unit)) s x ≡ plain None x
 take_course who unit s x = settle (plain None x)
+
+pub ground_course : (who : Who) (to : Ground) (s : State) (x : Course) → course_after (Entry.Call who (Call.Ground to)) s x ≡ plain None x
+ground_course who to s x = settle (plain None x)
 
 pub reclaim_course : (moment : ℕ) (s : State) (x : Course) → course_after (Entry.Reclaim moment) s x ≡ fresh x
 reclaim_course moment s x = refl

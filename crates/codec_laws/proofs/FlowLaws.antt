@@ -2,7 +2,7 @@
 use Rattle.std.proofs.Common.{ℕ, ◌≡◌, ◌+◌, ◌<◌, ◌&&◌, ◌||◌, not, Bool, true, false, eqb, cond, eq-eqb, List, [], ◌∷◌, ◌++◌, append_assoc, append-nil, length, length-append, slice_get, Option, Some, None, is_none, refl, ap, sym, subst, ◌∙◌, inl, inr, ◌⊎◌, arith}
 use Rattle.std.specs.Prelude.{IfSome}
 use Rattle.std.proofs.lemmas.Bool.{and_parts, not-true, eqb-true}
-use Rattle.wc_base.specs.{Options.some_same, Options.cond_is}
+use Rattle.wc_base.specs.{declared.ground.Ground.Ground, Options.some_same, Options.cond_is}
 use Rattle.codec_definitions.specs.declared.unit.Unit as media
 use Rattle.codec_model.specs.declared.entry.{WorkKind.WorkKind, Work.Work, Item.Item, Message.Message, Running.Running, Call.Call, Entry.Entry, Outcome.Outcome, Ended.Ended, Task.Task}
 use Rattle.codec_model.specs.Control.{Control, kind_of, process_queue, at_next_place, done_running, halts}
@@ -11,7 +11,7 @@ use Rattle.codec_model.specs.Facts.{IsNumbered}
 use Rattle.codec_model.specs.StepLaws.{by_items, by_removals, Sends, asked, call_sends, no_slot_end, begins_free, begun, task_ran, EachStep, by_steps}
 use Rattle.codec_laws.specs.declared.sight.Ran.{Ran}
 use Rattle.codec_laws.specs.Sources.{Book, after_item, after_ran}
-use Rattle.codec_laws.proofs.Course.{Asked, items_asked, messages_asked, waiting_asked, kinds, given_all, front_asked, Course, course_after, plain, turned, settled, fresh, done_course_is, turn_course_is, task_units, refused_course, sent_course, take_course, removal_course, start_course, done_course, turn_course}
+use Rattle.codec_laws.proofs.Course.{Asked, items_asked, messages_asked, waiting_asked, kinds, given_all, front_asked, Course, course_after, plain, turned, settled, fresh, done_course_is, turn_course_is, task_units, refused_course, sent_course, take_course, ground_course, removal_course, start_course, done_course, turn_course}
 
 -- no item of this epoch is at work
 abbrev pub IsOther : ℕ → Option Running → Type 0
@@ -353,20 +353,25 @@ turn_flow (Task.Close error) ts x s h = removed_flow x s _ refl refl refl refl r
 
 -- ---- each entry
 
+-- an entry that counts a take, or tells the codec's ground
+noted_flow : (taken : ℕ) (to : Ground) (x : Course) (s : State) → Flow x s → Flow (plain None x) (with_control (record (at_next_place s.control) { taken = taken; own_ground = to }) s)
+noted_flow taken to x s h = record {
+  place = ap (λ (n : ℕ). n + 1) h.place;
+  epoch = h.epoch;
+  works = h.works;
+  calls = h.calls;
+  numbered = h.numbered;
+  given = h.given;
+  mid = mid_same x.mid (length x.past) s _ refl refl refl refl refl h.mid;
+}
+
 each_flow : EachStep (λ e s t. (x : Course) → Flow x s → Flow (course_after e s x) t)
 each_flow = record {
   refused = λ who y error s may e x h. rw (refused_course who y error s x e) (plain_flow x s h);
   sent = λ who y w s m may e x h. rw (sent_course who y w s x m e) (queued_flow x s w (accepted y s.control) (call_sends y w s.control m) h);
   removes_all = λ who y s is e x h. rw (removal_course who y s x is e) (remove_flow y x s is h);
-  takes = λ who unit s may x h. rw (take_course who unit s x) (record {
-    place = ap (λ (n : ℕ). n + 1) h.place;
-    epoch = h.epoch;
-    works = h.works;
-    calls = h.calls;
-    numbered = h.numbered;
-    given = h.given;
-    mid = mid_same x.mid (length x.past) s _ refl refl refl refl refl h.mid;
-  });
+  takes = λ who unit s may x h. rw (take_course who unit s x) (noted_flow (s.control.taken + 1) s.control.own_ground x s h);
+  grounds = λ who to s x h. rw (ground_course who to s x) (noted_flow s.control.taken to x s h);
   start = λ i is epoch item s first may x h.
       let free = and_parts (is_none s.control.running) (not s.control.halted) (begins_free epoch item i s.control may) in
       rw (start_course epoch item s x) (begun_flow i is x s first (idle_of s.control.running free.0) (not-true _ free.1) h);

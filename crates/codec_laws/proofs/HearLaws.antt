@@ -188,6 +188,7 @@ each_hears = record {
   sent = λ who y w s m may e. sent_hears who y w s m e;
   removes_all = removal_hears;
   takes = λ who unit s may none. same_hears s.control _ refl refl refl;
+  grounds = λ who to s none. same_hears s.control _ refl refl refl;
   start = λ i is epoch item s first may none. same_hears s.control _ refl refl refl;
   done = λ r e epoch item moment o s running own is none. done_hears r e moment s.control;
   turn = λ t ts s first none. turn_hears t ts s (subst (λ (l : List Task). rejects_with Entry.Turn (record { turn = turn_word l; events = turn_shows l s.control }) ≡ None) first none);

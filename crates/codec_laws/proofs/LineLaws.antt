@@ -264,6 +264,7 @@ each_lined = record {
   sent = λ who y w s m may e x since f rises h. rw (sent_course who y w s x m e) (sent_lined w x s.control (accepted y s.control) (call_sends y w s.control m) h);
   removes_all = λ who y s is e x since f rises h. rw (removal_course who y s x is e) (remove_lined y x s is);
   takes = λ who unit s may x since f rises h. h;
+  grounds = λ who to s x since f rises h. h;
   start = λ i is epoch item s first may x since f rises h. h;
   done = λ r e epoch item moment o s running own is x since f rises h. subst (λ (y : Course). Lined y (done_running r e moment (at_next_place s.control))) (sym (done_course epoch item moment o s x)) (done_lined r e epoch item moment since o x s running own is f rises h);
   turn = λ t ts s first x since f rises h. rw (turn_course t ts s x first) (turn_lined t ts x s first h);

@@ -14,7 +14,7 @@ use Rattle.codec_model.specs.StepLaws.{by_items, by_removals, Sends, asked, call
 use Rattle.history_laws.specs.{OutputLaws.units_append}
 use Rattle.codec_laws.specs.declared.source.Source.{Source}
 use Rattle.codec_laws.specs.Sources.{Book, given_by, after_item, after_ran}
-use Rattle.codec_laws.proofs.Course.{Asked, waiting_asked, kinds, given_all, Course, course_after, plain, turned, settled, fresh, done_course_is, turn_course_is, refused_course, sent_course, take_course, removal_course, start_course, done_course, turn_course}
+use Rattle.codec_laws.proofs.Course.{Asked, waiting_asked, kinds, given_all, Course, course_after, plain, turned, settled, fresh, done_course_is, turn_course_is, refused_course, sent_course, take_course, ground_course, removal_course, start_course, done_course, turn_course}
 use Rattle.codec_laws.proofs.FlowLaws.{Flow, mid_now, given_more_all, other_halts}
 
 -- the units that an item gives
@@ -403,6 +403,7 @@ each_outs = record {
   sent = λ who y w s m may e x f h. rw (sent_course who y w s x m e) (sent_outs w x s.control (accepted y s.control) (call_sends y w s.control m) h);
   removes_all = λ who y s is e x f h. rw (removal_course who y s x is e) (remove_outs y x s is);
   takes = λ who unit s may x f h. rw (take_course who unit s x) (same_outs x _ s.control _ refl refl refl refl refl refl refl refl h);
+  grounds = λ who to s x f h. rw (ground_course who to s x) (same_outs x _ s.control _ refl refl refl refl refl refl refl refl h);
   start = λ i is epoch item s first may x f h. rw (start_course epoch item s x) (same_outs x _ s.control _ refl refl refl refl refl refl refl refl h);
   done = λ r e epoch item moment o s running own is x f h. rw (done_course epoch item moment o s x) (done_outs r e epoch item moment o x s running own is f h);
   turn = λ t ts s first x f h. rw (turn_course t ts s x first) (turn_outs t ts x s first h);

@@ -121,6 +121,7 @@ each_phases = record {
   sent = λ who y w s m may e. let k = sent_asks who y w s m e in seen_phases _ (Some w) _ None s _ k.0 k.1 (asked_phases w s _ (sent_place w s.control (accepted y s.control) (call_sends y w s.control m)) (sent_on y w s.control m may e));
   removes_all = λ who y s is e. let k = removal_asks who y s is e in seen_phases _ None _ (Some DomError.Abort) s _ k.0 k.1 (by_removals (λ y. Phases None true s (removed_state (accepted y s.control) s)) (removed_phases s _ refl (λ f. absurd cc)) (removed_phases s _ refl (λ f. absurd cc)) y is);
   takes = λ who unit s may. quiet_phases s _ refl refl;
+  grounds = λ who to s. quiet_phases s _ refl refl;
   start = λ i is epoch item s first may. quiet_phases s _ refl refl;
   done = λ r e epoch item moment o s running own is. done_phases r e moment s;
   turn = λ t ts s first. subst (λ (l : List Task). Phases None (is_some (rejects_with Entry.Turn (record { turn = turn_word l; events = turn_shows l s.control }))) s (task_ran t ts s)) (sym first) (turn_phases t ts s);

@@ -14,7 +14,7 @@ use Rattle.codec_model.specs.Shown.{shows, ends_of, call_shows, accepted_shows, 
 use Rattle.codec_model.specs.StepLaws.{by_items, by_removals, begins_free, begun, task_ran, EachStep, by_steps}
 use Rattle.codec_laws.specs.Sights.{sights_from}
 use Rattle.codec_laws.specs.Sources.{end_at, own_ends, ends_in}
-use Rattle.codec_laws.proofs.Course.{Asked, items_asked, messages_asked, waiting_asked, Course, course_after, plain, turned, settled, fresh, done_course_is, turn_course_is, refused_course, sent_course, take_course, removal_course, start_course, done_course, turn_course}
+use Rattle.codec_laws.proofs.Course.{Asked, items_asked, messages_asked, waiting_asked, Course, course_after, plain, turned, settled, fresh, done_course_is, turn_course_is, refused_course, sent_course, take_course, ground_course, removal_course, start_course, done_course, turn_course}
 use Rattle.codec_laws.proofs.FlowLaws.{Flow, moved, messages_more, mid_free, mid_now, ran_halts, other_halts, step_flow}
 use Rattle.codec_laws.proofs.PlaceLaws.{step_phases}
 
@@ -293,6 +293,7 @@ each_promises = record {
   sent = λ who y w s m may e x f h. rw (sent_course who y w s x m e) (sent_promises y w x s.control m h);
   removes_all = λ who y s is e x f h. rw (removal_course who y s x is e) (remove_promises y x s is);
   takes = λ who unit s may x f h. rw (take_course who unit s x) (same_promises x _ s.control _ refl refl refl refl refl h);
+  grounds = λ who to s x f h. rw (ground_course who to s x) (same_promises x _ s.control _ refl refl refl refl refl h);
   start = λ i is epoch item s first may x f h.
       let free = and_parts (is_none s.control.running) (not s.control.halted) (begins_free epoch item i s.control may) in
       let none = mid_free x.mid (length x.past) s (idle_of s.control.running free.0) (not-true _ free.1) f.mid in
@@ -381,6 +382,7 @@ each_conserves p = record {
   sent = λ who y w s m may e x h. sent_conserves p who y w s m e;
   removes_all = λ who y s is e x h. remove_conserves p who y s is e;
   takes = λ who unit s may x h. omega arith;
+  grounds = λ who to s x h. omega arith;
   start = λ i is epoch item s first may x h. omega arith;
   done = λ r e epoch item moment o s running own is x h. quiet_conserves p [] s.control (done_running r e moment (at_next_place s.control)) refl (pending_same r e moment s.control);
   turn = λ t ts s first x h. subst (λ (l : List Task). own_ends p (ends_of (turn_shows l s.control)) + count p (task_ran t ts s).control.pending ≡ count p s.control.pending + 0) (sym first) (turn_conserves p t ts x s first h);

@@ -150,6 +150,7 @@ each_late = record {
   sent = λ who y w s m may e x since p f rises lt. tt;
   removes_all = λ who y s is e x since p f rises lt. tt;
   takes = λ who unit s may x since p f rises lt. tt;
+  grounds = λ who to s x since p f rises lt. tt;
   start = λ i is epoch item s first may x since p f rises lt. tt;
   done = λ r e epoch item moment o s running own is. done_late r epoch item moment o s (with_control (done_running r e moment (at_next_place s.control)) s) running own;
   turn = λ t ts s first x since p f rises lt. tt;

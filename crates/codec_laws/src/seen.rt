@@ -32,6 +32,7 @@ fn message_kind(call: &Call) -> Option<WorkKind>
         Call::Reset => None,
         Call::Close => None,
         Call::Take(_) => None,
+        Call::Ground(_) => None,
     }
 }
 

@@ -205,6 +205,7 @@ module _ (p : ℕ) where
     sent = λ who x w s m may e h. sent_sound x w s.control m h;
     removes_all = λ who x s is e h. by_removals (λ y. IsSound (accepted y s.control)) (removed_sound Unconfigured s.control h) (removed_sound Closed s.control h) x is;
     takes = λ who unit s may h. (omega (counting, h.0), h.1);
+    grounds = λ who to s h. (omega (counting, h.0), h.1);
     start = λ i is epoch item s first may h.
         let free = and_parts (is_none s.control.running) (not s.control.halted) (begins_free epoch item i s.control may) in
         let waiting = subst (λ (ws : List Item). IsSound (record s.control { work = ws })) first h in

@@ -99,6 +99,7 @@ each_apart = record {
   sent = λ who x w s m may e. sent_apart who x w s m;
   removes_all = λ who x s is e. removed_apart who x s is e;
   takes = λ who unit s may. record { waits = adds_nothing s.control; runs = refl };
+  grounds = λ who to s. record { waits = adds_nothing s.control; runs = refl };
   start = λ i is epoch item s first may. record {
     waits = ap (λ (l : List Item). behind_held l ++ messages_held s.control.messages) (sym first);
     runs = ap front_held (sym first);

@@ -50,6 +50,7 @@ each_left = record {
   sent = λ who x w s m may e is h. absurd cc;
   removes_all = λ who x s removes e is h. absurd cc;
   takes = λ who unit s may is h. absurd cc;
+  grounds = λ who to s is h. absurd cc;
   start = λ i is epoch item s first may _ h. rw first (omega arith);
   done = λ r e epoch item moment x s running own is _ h. subst (λ (o : Option Running). left (done_running r e moment (at_next_place s.control)) + 1 ≤ left (record s.control { running = o })) (sym running) (done_left r e moment s.control);
   turn = λ x ts s first _ h. subst (λ (xs : List Task). left (run_task x (record (at_next_place s.control) { tasks = ts })) + 1 ≤ left (record s.control { tasks = xs })) (sym first) (task_left x ts s.control h.size);

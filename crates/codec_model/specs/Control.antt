@@ -6,6 +6,9 @@ use Rattle.wc_config.specs.declared.config.Config.{Config}
 use Rattle.wc_chunk.specs.declared.chunk.Chunk.{Chunk}
 use Rattle.wc_base.specs.declared.error.DomError.{DomError}
 use Rattle.wc_base.specs.declared.error.DomError.TheVariants as dom
+use Rattle.wc_base.specs.declared.ground.Ground.{Ground}
+use Rattle.wc_base.specs.declared.ground.Ground.TheVariants as grounds
+use Rattle.wc_base.specs.Grounds.{is_background}
 use Rattle.codec_definitions.specs.declared.unit.Unit as media
 use Rattle.codec_definitions.specs.declared.unit.Unit.TheVariants as unit_of
 use Rattle.wc_config.specs.declared.config.AudioDecoderConfig.{AudioDecoderConfig}
@@ -60,6 +63,8 @@ pub record Control : Type 0 where
   pub active : Option AudioDecoderConfig
   -- the moment of the last item of this epoch that ended
   pub progress : Option ℕ
+  -- where it is at work
+  pub own_ground : Ground
 
 -- An entry took its place.
 abbrev pub at_next_place : Control → Control
@@ -270,17 +275,31 @@ after_reset s = with_dequeue_if (not (s.size == 0)) (record s {
 abbrev pub after_close : Control → Control
 after_close s = record (after_reset s) { phase = Closed }
 
+-- The codec is told where it is at work; nothing else changes it (our choice).
+abbrev pub after_ground : Ground → Control → Control
+after_ground to s = record s { own_ground = to }
+
 -- how long a codec counts as active after its last item ended, in microseconds (our choice)
 abbrev pub activity : ℕ
 activity = 10000000
 
-abbrev pub is_inactive : ℕ → Option ℕ → Bool
-is_inactive now None = false
-is_inactive now (Some moment) = nat_le (moment + activity) now
+abbrev pub is_background_decoder : Kind → Ground → Bool
+is_background_decoder k at = is_decoder k && is_background at
 
--- a configured codec may be reclaimed where it has not been active for long enough
+-- an item ended, and so long ago that the codec is not active, or also an active one may be reclaimed
+abbrev pub is_reclaimable : ℕ → Bool → Option ℕ → Bool
+is_reclaimable now active_too None = false
+is_reclaimable now active_too (Some moment) = nat_le (moment + activity) now || active_too
+
+-- A configured codec may be reclaimed where it is not active; a decoder in the background, whose page has no encoder at work,
+-- where it is active too (W3C WebCodecs, 'Resource Reclamation'; that it does not matter whether its page plays sound, and
+-- that a codec is spared until its first item ended, is our choice).
 abbrev pub may_reclaim : ℕ → Control → Bool
-may_reclaim now s = elim (s.phase) [ Unconfigured ↦ false | Configured ↦ is_inactive now s.progress | Closed ↦ false ]
+may_reclaim now s = elim (s.phase) [
+  | Unconfigured ↦ false
+  | Configured ↦ is_reclaimable now (is_background_decoder s.opening.kind s.own_ground) s.progress
+  | Closed ↦ false
+]
 
 -- an opening where none is given, so that definitions have a value (our choice: the kind and the saturation that a script has by default)
 abbrev pub no_opening : Opening
@@ -308,6 +327,7 @@ opening_control o = record {
   taken = 0;
   active = None;
   progress = None;
+  own_ground = grounds.Foreground;
 }
 
 -- the same description, or none of both

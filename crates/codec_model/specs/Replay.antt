@@ -39,7 +39,7 @@ use Rattle.codec_model.specs.declared.entry.Call.{Call}
 use Rattle.codec_model.specs.declared.entry.Call.TheVariants as call
 use Rattle.codec_model.specs.declared.entry.Entry.{Entry}
 use Rattle.codec_model.specs.declared.entry.Entry.TheVariants as entry
-use Rattle.codec_model.specs.Control.{Control, opening_control, is_key_chunk, may_start, after_configure, after_decode, after_flush, start_front, done_running, at_next_place, after_reset, after_close, may_reclaim, run_front, held_of, after_encode, after_take, may_take}
+use Rattle.codec_model.specs.Control.{Control, opening_control, is_key_chunk, may_start, after_configure, after_decode, after_flush, start_front, done_running, at_next_place, after_reset, after_close, may_reclaim, run_front, held_of, after_encode, after_take, may_take, after_ground}
 
 -- what the coder was given in one epoch: its last configuration, and the commands since
 pub record Given : Type 0 where
@@ -198,6 +198,7 @@ message_of call.Flush = Some work.Flush
 message_of call.Reset = None
 message_of call.Close = None
 message_of (call.Take unit) = None
+message_of (call.Ground to) = None
 
 abbrev pub sends : Call → Bool
 sends x = is_some (message_of x)
@@ -211,6 +212,7 @@ call_error call.Flush c = flush_error c
 call_error call.Reset c = removal_error c
 call_error call.Close c = removal_error c
 call_error (call.Take unit) c = None
+call_error (call.Ground to) c = None
 
 -- of a medium that is not detached, the codec makes a clone exactly where it is configured
 abbrev pub may_hand : Handed → Control → Bool
@@ -238,6 +240,7 @@ accepted call.Flush c = after_flush c.place (at_next_place c)
 accepted call.Reset c = after_reset (at_next_place c)
 accepted call.Close c = after_close (at_next_place c)
 accepted (call.Take unit) c = after_take (at_next_place c)
+accepted (call.Ground to) c = after_ground to (at_next_place c)
 
 -- a call at its place: refused with this error it has its entry and does nothing else
 abbrev pub after_call : Option DomError → Call → Control → Control

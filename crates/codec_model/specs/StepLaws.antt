@@ -5,6 +5,7 @@ use Rattle.std.proofs.lemmas.Bool.{and_parts}
 use Rattle.wc_base.specs.declared.error.DomError.{DomError}
 use Rattle.wc_base.specs.declared.error.DomError.TheVariants as dom
 use Rattle.wc_base.specs.declared.who.Who.{Who}
+use Rattle.wc_base.specs.declared.ground.Ground.{Ground}
 use Rattle.wc_base.specs.Options.{cond_is, some_same}
 use Rattle.wc_config.specs.declared.config.Config.{Config}
 use Rattle.wc_config.specs.declared.codec.CoderId.{CoderId}
@@ -32,7 +33,7 @@ use Rattle.codec_model.specs.declared.entry.Ended.{Ended}
 use Rattle.codec_model.specs.declared.entry.Ended.TheVariants as ended
 use Rattle.codec_model.specs.declared.entry.Outcome.{Outcome}
 use Rattle.codec_model.specs.declared.entry.Outcome.TheVariants as outcome
-use Rattle.codec_model.specs.Control.{Control, kind_of, held_of, is_decoder, coded_out, is_taken, with_item, after_message, process_queue, with_message, at_next_place, start_first, may_start, after_close, after_take, may_take, may_reclaim, run_first, run_task, done_running}
+use Rattle.codec_model.specs.Control.{Control, kind_of, held_of, is_decoder, coded_out, is_taken, with_item, after_message, process_queue, with_message, at_next_place, start_first, may_start, after_close, after_take, may_take, after_ground, may_reclaim, run_first, run_task, done_running}
 use Rattle.codec_model.specs.Replay.{State, Given, nothing_given, given_more, serves_too, missing_coder, answers_to, answer_to, decoder_config, labelled_answer, call_error, may_call, message_of, sends, removes, with_control, removed, accepted, called, call_step, start_step, done_step, done_ended, ended_of, turn_step, step}
 use Rattle.codec_model.specs.Held.{is_removal}
 use Rattle.codec_model.specs.Shown.{promise_of, refused_shows, call_shows, rejections, close_shows, turn_shows, shows, units_in}
@@ -231,6 +232,7 @@ pub record EachStep (P : Entry → State → State → Type 0) : Type 0 where
   pub sent : (who : Who) (x : Call) (w : Work) (s : State) → message_of x ≡ Some w → may_call x s.control ≡ true → call_error x s.control ≡ None → P (entry.Call who x) s (with_control (accepted x s.control) s)
   pub removes_all : (who : Who) (x : Call) (s : State) → removes x ≡ true → call_error x s.control ≡ None → P (entry.Call who x) s (removed (accepted x s.control) s)
   pub takes : (who : Who) (unit : ℕ) (s : State) → may_take unit s.control ≡ true → P (entry.Call who (call.Take unit)) s (with_control (after_take (at_next_place s.control)) s)
+  pub grounds : (who : Who) (to : Ground) (s : State) → P (entry.Call who (call.Ground to)) s (with_control (after_ground to (at_next_place s.control)) s)
   pub start : (i : Item) (is : List Item) (epoch item : ℕ) (s : State) → s.control.work ≡ i ∷ is → begins epoch item i s.control ≡ true → P (entry.Start epoch item) s (begun (i ∷ is) i s)
   pub done : (r : Running) (e : Ended) (epoch item moment : ℕ) (o : Outcome) (s : State) → s.control.running ≡ Some r → (eqb r.epoch epoch && eqb r.number item) ≡ true → ended_of r.kind s.running_given o ≡ Some e → P (entry.Done epoch item moment o) s (with_control (done_running r e moment (at_next_place s.control)) s)
   pub turn : (x : Task) (ts : List Task) (s : State) → s.control.tasks ≡ x ∷ ts → P entry.Turn s (task_ran x ts s)
@@ -287,6 +289,7 @@ module _ (P : Entry → State → State → Type 0) (each : EachStep P) where
   call_each who call.Reset s may None e = each.removes_all who call.Reset s refl e
   call_each who call.Close s may None e = each.removes_all who call.Close s refl e
   call_each who (call.Take unit) s may None e = each.takes who unit s may
+  call_each who (call.Ground to) s may None e = each.grounds who to s
 
   -- what holds of each kind of step holds of each legal entry
   pub by_steps : (e : Entry) (s t : State) → step e s ≡ Some t → P e s t

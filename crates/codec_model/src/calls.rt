@@ -6,7 +6,7 @@ ghost use Rattle.codec_model.specs.Replay.{config_asked, is_cloned, refused_as, 
 ghost use Rattle.codec_model.specs.Shown.{exception_of, promise_of, refused_shows, shown_of};
 
 use crate::entry::{Call, Coded, Handed, HeldMedium, Opening, Pair, Showing, Work, WorkKind};
-use wc_base::{DomError, NoMemory};
+use wc_base::{DomError, Ground, NoMemory};
 use wc_chunk::Chunk;
 use wc_config::{Config, Kind};
 
@@ -20,6 +20,13 @@ pub fn is_decoder(kind: Kind) -> bool
         Kind::VideoDecoder => true,
         Kind::VideoEncoder => false,
     }
+}
+
+/// Whether a codec of this kind is a decoder that works in the background.
+pub fn is_background_decoder(kind: Kind, at: Ground) -> bool
+    ensures { result ≡ control.is_background_decoder kind at }
+{
+    is_decoder(kind) && at.is_background()
 }
 
 fn adds_to_picture(bytes: &[u8]) -> bool
@@ -148,6 +155,7 @@ impl Call {
             Call::Reset => false,
             Call::Close => false,
             Call::Take(_) => false,
+            Call::Ground(_) => false,
         }
     }
 
@@ -171,6 +179,7 @@ impl Call {
             Call::Reset => Ok(Call::Reset),
             Call::Close => Ok(Call::Close),
             Call::Take(unit) => Ok(Call::Take(*unit)),
+            Call::Ground(to) => Ok(Call::Ground(*to)),
         }
     }
 
@@ -186,6 +195,7 @@ impl Call {
             Call::Reset => None,
             Call::Close => None,
             Call::Take(_) => None,
+            Call::Ground(_) => None,
         }
     }
 
@@ -201,6 +211,7 @@ impl Call {
             Call::Reset => error,
             Call::Close => error,
             Call::Take(_) => error,
+            Call::Ground(_) => error,
         }
     }
 }

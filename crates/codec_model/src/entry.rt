@@ -1,7 +1,7 @@
 // The entries of a codec's history, and what its queues hold.
 use bytes::Bytes;
 use coder_api::Unit;
-use wc_base::{DomError, List, PictureShape, SoundShape, Who};
+use wc_base::{DomError, Ground, List, PictureShape, SoundShape, Who};
 use wc_chunk::Chunk;
 use wc_config::{Config, Kind};
 
@@ -78,6 +78,8 @@ pub enum Call {
     /// The caller takes the first output that was shown and not taken yet, of this number. Outputs are numbered from 0 as
     /// they are shown.
     Take(u64),
+    /// The codec is at work there from now on.
+    Ground(Ground),
 }
 
 /// One event of a codec.

@@ -7,7 +7,7 @@ mod entry;
 mod facts;
 mod showing;
 
-pub use calls::{is_decoder, is_key_chunk};
+pub use calls::{is_background_decoder, is_decoder, is_key_chunk};
 pub use entry::{
     Answer, Call, CodecState, Coded, Content, Ended, Entry, Event, Handed, HeldMedium, Item,
     MediaShape, Message, Opening, Outcome, Pair, PromiseEnd, PromiseState, Running, Showing, Shown,

@@ -26,6 +26,7 @@ control_of m = record {
   taken = m.taken;
   active = m.active;
   progress = m.progress;
+  own_ground = m.own_ground;
 }
 
 -- Work and tasks have a place for all that may still come to them, no number passes the count of entries, the counts of

@@ -1,7 +1,7 @@
 // The queues of a codec.
-ghost use Rattle.std.specs.Prelude.{◌≡◌, ◌<◌, ◌≤◌, ◌^◌, ◌+◌, [], true, false, IsTrue, IsSome, OnOk, OnErr, OnSome, IfOk, IfNone, IfSome, None, option_map};
+ghost use Rattle.std.specs.Prelude.{◌≡◌, ◌<◌, ◌≤◌, ◌^◌, ◌+◌, nat_le, [], true, false, IsTrue, IsSome, OnOk, OnErr, OnSome, IfOk, IfNone, IfSome, None, option_map};
 ghost use Rattle.codec_model.specs.Replay.{call_error, after_call, removal_error, accepted, encode_error, may_call, sends};
-ghost use Rattle.codec_model.specs.Control.{at_next_place, after_take, takes_front, process_front, process, start_item, after_start, after_done, after_turn, turn_closes, after_reset, after_close, may_reclaim, opening_control, left};
+ghost use Rattle.codec_model.specs.Control.{at_next_place, after_take, takes_front, process_front, process, start_item, after_start, after_done, after_turn, turn_closes, after_reset, after_close, after_ground, activity, may_reclaim, opening_control, left};
 ghost use Rattle.codec_model.specs.Shown.{IsAnswer, exception_of, call_shows, accepted_shows, reclaim_shows, turn_shows, turn_word, closes, shown_of};
 ghost use Rattle.codec_queues.specs.Labels.{label_of};
 ghost use Rattle.codec_queues.specs.Sent.{sent};
@@ -14,17 +14,24 @@ use crate::queues::{
 use crate::rings::Queues;
 use codec_model::{
     Answer, Call, CodecState, Coded, Ended, Handed, Item, Message, Opening, Running, Showing, Task,
-    Work, WorkKind, is_decoder, is_key_chunk,
+    Work, WorkKind, is_background_decoder, is_decoder, is_key_chunk,
 };
 use std::alloc::Global;
 use std::collections::VecDeque;
 use std::marker::Model;
 use std::mem;
-use wc_base::{DomError, List, NoMemory};
+use wc_base::{DomError, Ground, List, NoMemory};
 use wc_config::AudioDecoderConfig;
 
 // How long a codec counts as active after its last item ended, in microseconds.
 const ACTIVITY: u64 = 10_000_000;
+
+// Whether a codec is not active any more whose last item ended at this moment.
+fn is_inactive(moment: u64, now: u64) -> bool
+    ensures { result ≡ nat_le (moment + activity) now }
+{
+    now.saturating_sub(moment) >= ACTIVITY
+}
 
 /// What a codec keeps beside its history and its coder: its state, its queues, its pending promises, and how many outputs
 /// were shown. A contract sees it as the control state of the codec's definition.
@@ -52,6 +59,7 @@ pub struct Machine {
     // The decoder config of the last encoded output that was shown.
     active: Option<AudioDecoderConfig>,
     progress: Option<u64>,
+    own_ground: Ground,
     // At most so many starts, ends and turns are left.
     room: usize,
 }
@@ -93,6 +101,7 @@ impl Machine {
             taken: 0,
             active: None,
             progress: None,
+            own_ground: Ground::Foreground,
             room: 0,
         })
     }
@@ -164,6 +173,13 @@ impl Machine {
         self.progress
     }
 
+    /// Where the codec is at work.
+    pub fn ground(&self) -> Ground
+        ensures { result ≡ self.now.own_ground }
+    {
+        self.own_ground
+    }
+
     /// How many outputs were taken, which is the number of the next one.
     pub fn taken(&self) -> u64
         ensures { result ≡ self.now.taken }
@@ -228,6 +244,7 @@ impl Machine {
             Call::Reset => self.removal_error(),
             Call::Close => self.removal_error(),
             Call::Take(_) => None,
+            Call::Ground(_) => None,
         }
     }
 
@@ -261,17 +278,21 @@ impl Machine {
             Call::Flush => true,
             Call::Reset => true,
             Call::Close => true,
+            Call::Ground(_) => true,
         }
     }
 
     /// Whether the codec may be reclaimed at a moment in microseconds: it is configured, and its last item ended ten
-    /// seconds before or earlier.
+    /// seconds before or earlier, or at whatever moment where it is a decoder in the background.
     pub fn may_reclaim(&self, now: u64) -> bool
         ensures { result ≡ may_reclaim now self.now }
     {
         match self.phase {
             CodecState::Configured => match self.progress {
-                Some(moment) => now.saturating_sub(moment) >= ACTIVITY,
+                Some(moment) => {
+                    is_inactive(moment, now)
+                        || is_background_decoder(self.opening.kind, self.own_ground)
+                }
                 None => false,
             },
             CodecState::Unconfigured => false,
@@ -540,6 +561,16 @@ impl Machine {
         self.place += 1;
     }
 
+    /// The codec is at work there from now on.
+    fn set_ground(&mut self, to: Ground)
+        requires { self.old.place + 1 < 2 ^ 64 }
+        ensures after { self.new ≡ after_ground to (at_next_place self.old) }
+        ensures left { left self.new ≡ left self.old }
+    {
+        self.own_ground = to;
+        self.place += 1;
+    }
+
     /// A call that is not refused and sends a message.
     fn queue(&mut self, call: &Call) -> Result<(), NoMemory>
         requires place { self.old.place + 1 < 2 ^ 64 }
@@ -573,6 +604,7 @@ impl Machine {
             Call::Reset => unreachable!(),
             Call::Close => unreachable!(),
             Call::Take(_) => unreachable!(),
+            Call::Ground(_) => unreachable!(),
         }
     }
 
@@ -596,6 +628,10 @@ impl Machine {
             }
             Call::Take(_) => {
                 self.take();
+                Showing::Nothing
+            }
+            Call::Ground(to) => {
+                self.set_ground(*to);
                 Showing::Nothing
             }
             Call::Encode(Handed::Gone) => {

@@ -14,7 +14,7 @@ use coder_api::{Coder, CoderFault, Input, SlotBox, Unit};
 use std::alloc::{AllocError, Global};
 use std::process::Abort;
 use std::test::Fail;
-use wc_base::{By, DomError, NoMemory, Text, Who};
+use wc_base::{By, DomError, Ground, NoMemory, Text, Who};
 use wc_config::{AudioDecoderConfig, CodecId, CoderId, Config, Role};
 
 // A decoder of 16-bit PCM that never has memory for a chunk.
@@ -147,6 +147,10 @@ fn runs(rt: &impl Abort, alloc: Global, core: &mut Core<Quiet>) {
     assert_eq!(rt; core.end_of(1), PromiseState::Resolved);
     assert_eq!(rt; core.look(), (9, CodecState::Configured, 0));
     assert_eq!(rt; core.progress(), Some(2));
+    assert_eq!(rt;
+        core.holding(),
+        (Some(2), Ground::Foreground, Kind::AudioDecoder)
+    );
 }
 
 fn closes(rt: &impl Abort, core: &mut Core<Quiet>) {

@@ -4,7 +4,7 @@ use codec_model::{Call, Entry, Event, Kind, Opening, Outcome, Shown, TurnWord};
 use coder_api::Unit;
 use std::alloc::{AllocError, Global};
 use std::test::Fail;
-use wc_base::{DomError, List, NoMemory, Text, Who};
+use wc_base::{DomError, Ground, List, NoMemory, Text, Who};
 use wc_chunk::Chunk;
 use wc_config::{AudioDecoderConfig, Config, VideoDecoderConfig};
 
@@ -259,5 +259,25 @@ fn reclaims(rt: HostRuntime) -> Result<(), Fail> {
         events: closed,
     };
     assert_eq!(rt; follower.follow(&late), Ok(Some(shown)));
+    Ok(())
+}
+
+#[test]
+fn reclaims_in_the_background(rt: HostRuntime) -> Result<(), Fail> {
+    let alloc = rt.alloc();
+    let mut follower = Follower::open(alloc, OPENING).expect(&rt, "a follower");
+    let entries = decoding(alloc, 0)?;
+    let shown = follow_all(alloc, &mut follower, entries.as_slice()).expect(&rt, "memory");
+    assert_eq!(rt; shown.len(), 10);
+    let early = Entry::Reclaim { moment: 1 };
+    for (to, may) in [
+        (Ground::BackgroundEncoding, false),
+        (Ground::Foreground, false),
+        (Ground::Background, true),
+    ] {
+        let told = called(Call::Ground(to));
+        assert!(rt; matches!(follower.follow(&told), Ok(Some(_))));
+        assert_eq!(rt; matches!(follower.follow(&early), Ok(Some(_))), may);
+    }
     Ok(())
 }

@@ -1,6 +1,7 @@
 // What `pick` answers.
-use reclaimer::{Ground, Holder, pick};
+use reclaimer::{Holder, pick};
 use std::test::Fail;
+use wc_base::Ground;
 
 fn decoder(codec: u32, progress: u64, ground: Ground) -> Holder {
     Holder {

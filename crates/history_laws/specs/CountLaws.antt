@@ -77,6 +77,7 @@ each_counts = record {
   sent = λ who x w s m may e. same_count _ _ (sent_shown w s.control _ (call_sends x w s.control m));
   removes_all = λ who x s is e. same_count _ _ (removal_shown x s.control is);
   takes = λ who unit s may. omega arith;
+  grounds = λ who to s. omega arith;
   start = λ i is epoch item s first may. omega arith;
   done = λ r e epoch item moment x s running own is. same_count _ _ (end_shown r e moment (at_next_place s.control));
   turn = λ x ts s first. subst (λ (l : List Task). (task_ran x ts s).control.shown ≡ s.control.shown + length (units_in (turn_shows l s.control))) (sym first) (run_shown x s.control (record (at_next_place s.control) { tasks = ts }));

@@ -1,6 +1,7 @@
 -- No number of a codec's state is above the number of its entries.
 use Rattle.std.proofs.Common.{ℕ, ◌≡◌, ◌+◌, ◌≤◌, Bool, true, false, eqb, cond, List, [], ◌∷◌, ◌++◌, length, length-append, Some, None, refl, ap, sym, subst, ◌∙◌, arith}
 use Rattle.std.specs.Prelude.{max, unwrap_or}
+use Rattle.wc_base.specs.declared.ground.Ground.{Ground}
 use Rattle.wc_base.specs.Options.{some_same}
 use Rattle.codec_model.specs.declared.entry.Opening.{Opening}
 use Rattle.codec_model.specs.declared.entry.Call.{Call}
@@ -12,7 +13,7 @@ use Rattle.codec_model.specs.declared.entry.Running.{Running}
 use Rattle.codec_model.specs.declared.entry.Task.{Task}
 use Rattle.codec_model.specs.declared.entry.Task.TheVariants as task
 use Rattle.codec_model.specs.declared.entry.Ended.{Ended}
-use Rattle.codec_model.specs.Control.{Control, process_queue, at_next_place, run_task, done_running, after_end, start_first, after_reset, after_close, after_take}
+use Rattle.codec_model.specs.Control.{Control, process_queue, at_next_place, run_task, done_running, after_end, start_first, after_reset, after_close, after_take, after_ground}
 use Rattle.codec_model.specs.Replay.{State, opening_state, step, accepted, removes}
 use Rattle.history_laws.specs.Numbers.{AreItemsUpTo, IsUpTo}
 use Rattle.history_laws.specs.OutputLaws.{all_append}
@@ -150,12 +151,16 @@ run_up n t ts c h = same_up (n + 1) (at_next_place c) _ refl refl refl (entered 
 taken_by : (n : ℕ) (c : Control) → IsUpTo n c → IsUpTo (n + 1) (after_take (at_next_place c))
 taken_by n c h = same_up (n + 1) (at_next_place c) (after_take (at_next_place c)) refl refl refl (omega (arith, h.taken)) refl refl refl refl (entered n c h)
 
+grounded : (n : ℕ) (to : Ground) (c : Control) → IsUpTo n c → IsUpTo (n + 1) (after_ground to (at_next_place c))
+grounded n to c h = let k = entered n c h in same_up (n + 1) (at_next_place c) (after_ground to (at_next_place c)) refl refl refl k.taken refl refl refl refl k
+
 each_up : (n : ℕ) → EachStep (λ e s t. IsUpTo n s.control → IsUpTo (n + 1) t.control)
 each_up n = record {
   refused = λ who x error s may e h. entered n s.control h;
   sent = λ who x w s m may e h. sent_up n w s.control _ (call_sends x w s.control m) h;
   removes_all = λ who x s is e h. removal_up n x s.control is h;
   takes = λ who unit s may h. taken_by n s.control h;
+  grounds = λ who to s h. grounded n to s.control h;
   start = λ i is epoch item s first may h. begun_up n i is s.control first h;
   done = λ r e epoch item moment x s running own is h. done_up n r e moment s.control h;
   turn = λ x ts s first h. run_up n x ts s.control h;

@@ -26,7 +26,7 @@ use Rattle.codec_model.specs.declared.entry.Task.TheVariants as task
 use Rattle.codec_model.specs.declared.entry.Ended.{Ended}
 use Rattle.codec_model.specs.declared.entry.Ended.TheVariants as ended
 use Rattle.codec_model.specs.declared.entry.Outcome.{Outcome}
-use Rattle.codec_model.specs.Control.{Control, process_queue, at_next_place, run_task, done_running, after_end, is_dequeue, is_desaturate, with_desaturate, after_reset, after_close, after_take, carried, is_active}
+use Rattle.codec_model.specs.Control.{Control, process_queue, at_next_place, run_task, done_running, after_end, is_dequeue, is_desaturate, with_desaturate, after_reset, after_close, after_take, after_ground, carried, is_active}
 use Rattle.codec_model.specs.Replay.{State, Given, command_of, decoder_config, labelled, given_more, answer_to, opening_state, nothing_given, step, ended_of, accepted, removes, removed, with_control}
 use Rattle.codec_model.specs.Shown.{outputs_from, turn_shows, shows, event_units, units_in, each_shown, each_shown_from}
 use Rattle.history_laws.specs.Outputs.{IsOwnWork, MayCarry, Judge, HoldsOwn, own_call}
@@ -255,6 +255,7 @@ each_own k = record {
   sent = λ who x w s m may e own h. with_own k _ s (sent_own k w s.control _ (call_sends x w s.control m) (own_call k.config k.input who x w s.control own m e) h.control) h;
   removes_all = λ who x s is e own h. removal_own k x s is h;
   takes = λ who unit s may own h. with_own k _ s (same_own k s.control (after_take (at_next_place s.control)) refl refl refl h.control) h;
+  grounds = λ who to s own h. with_own k _ s (same_own k s.control (after_ground to (at_next_place s.control)) refl refl refl h.control) h;
   start = λ i is epoch item s first may own h. begun_own k i is s first h;
   done = λ r e epoch item moment x s running this is own h. ended_own k r e moment x s is h;
   turn = λ x ts s first own h. task_ran_own k x ts s first h;

@@ -4,6 +4,7 @@ use Rattle.wc_config.specs.declared.config.Config.{Config}
 use Rattle.wc_config.specs.declared.config.Config.TheVariants as config
 use Rattle.wc_chunk.specs.declared.chunk.Chunk.{Chunk}
 use Rattle.wc_base.specs.declared.error.DomError.TheVariants as dom
+use Rattle.wc_base.specs.declared.ground.Ground.TheVariants as grounds
 use Rattle.codec_model.specs.declared.entry.Outcome.TheVariants as outcome
 use Rattle.codec_model.specs.declared.entry.PromiseState.TheVariants as promise
 use Rattle.codec_model.specs.declared.entry.Call.{Call}
@@ -18,7 +19,7 @@ use Rattle.codec_definitions.specs.Answers.{units_of}
 use Rattle.wc_base.specs.declared.media.SampleFormat.TheVariants.{S16}
 use Rattle.codec_model.specs.Replay.{answers_to}
 use Rattle.codec_model.specs.Shown.{shown, outputs_of}
-use Rattle.codec_laws.specs.Laws.{flush_ends}
+use Rattle.codec_laws.specs.Laws.{calls_alone, flush_ends}
 use Rattle.codec_laws.specs.Left.{left_after}
 use Rattle.codec_laws.specs.Contents.{configuration_at}
 use Rattle.codec_laws.specs.Sights.{sights, falls_at, dequeues_at}
@@ -113,6 +114,14 @@ pub record EarlyShows : Type 0 where
   pub early_too : outputs_of (shown two early) ≡ sounds 3
   pub otherwise : outputs_of (shown two other) ≡ sounds 4
   pub ends : flush_ends two early ≡ flush_ends two saturating
+
+-- where a codec is at work may differ
+abbrev pub moved : List Entry
+moved = made 4 (call.Ground grounds.Background) ∷ saturating
+
+pub record MovedShows : Type 0 where
+  pub calls : calls_alone moved ≡ calls_alone saturating
+  pub outputs : outputs_of (shown two moved) ≡ sounds 3
 
 -- the second of two outputs is the second that the definition gives for its calls
 pub record SaturatingGiven : Type 0 where

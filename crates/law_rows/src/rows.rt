@@ -1,6 +1,6 @@
 // The laws' definitions on whole runs, computed by the checker.
 ghost use Rattle.codec_model.specs.Replay.{IsLegal};
-ghost use Rattle.law_rows.specs.Rows.{four, two, closing, flushing, FlushingEnds, FlushingLeft, OthersLeft, resetting, saturating, ResettingPlaces, early, other, SaturatingPlaces, SaturatingFalls, SaturatingGiven, EarlyShows, ClosingEnds, UnsupportedEnds};
+ghost use Rattle.law_rows.specs.Rows.{four, two, closing, flushing, FlushingEnds, FlushingLeft, OthersLeft, resetting, saturating, ResettingPlaces, early, other, SaturatingPlaces, SaturatingFalls, SaturatingGiven, EarlyShows, moved, MovedShows, ClosingEnds, UnsupportedEnds};
 
 /// A reset while an item is at work: what comes of it is not shown.
 pub fn resetting_run()
@@ -21,6 +21,12 @@ pub fn early_run()
     ensures legal { IsLegal two early }
     ensures other_legal { IsLegal two other }
     ensures shows { EarlyShows }
+{}
+
+/// The first of these in the background.
+pub fn moved_run()
+    ensures legal { IsLegal two moved }
+    ensures shows { MovedShows }
 {}
 
 /// A decode and a flush.

@@ -578,6 +578,7 @@ module _ (laws : MediaLaws) (s : ScriptData) (media : List (List Chunk)) (made :
         rw found.3 (still (Step.Await promise) r is (look_marked v c found.0 r refl) tt tt (look_shows promise r found.0 found.1 found.2 found.3) (λ o. tt) refl)
     steps (Step.Reset on) is = asks on (Step.Reset on) Call.Reset is refl refl (λ i p at. absurd cc) refl
     steps (Step.Close on) is = asks on (Step.Close on) Call.Close is refl refl (λ i p at. absurd cc) refl
+    steps (Step.Ground on to) is = asks on (Step.Ground on to) (Call.Ground to) is refl refl (λ i p at. absurd cc) refl
     steps (Step.State on) is =
         let r = look_of_state on (codec_at on v.codecs) in
         still (Step.State on) r is (look_marked v c on r refl) tt tt

@@ -1,8 +1,7 @@
 -- Which codec is reclaimed (our choice).
 use Rattle.std.specs.Prelude.{ℕ, ◌≡◌, ◌+◌, ◌==◌, ◌&&◌, ◌||◌, ◌⊎◌, nat_le, nat_lt, Bool, true, false, List, slice_get, Option, Some, None, if◌then◌else◌}
 use Rattle.std.specs.List.{AllByRecursion}
-use Rattle.reclaimer.specs.declared.holder.Ground.{Ground}
-use Rattle.reclaimer.specs.declared.holder.Ground.TheVariants as ground
+use Rattle.wc_base.specs.Grounds.{is_background}
 use Rattle.reclaimer.specs.declared.holder.Holder.{Holder}
 use Rattle.reclaimer.specs.declared.choice.Reason.{Reason}
 use Rattle.reclaimer.specs.declared.choice.Reason.TheVariants as reason
@@ -10,11 +9,6 @@ use Rattle.reclaimer.specs.declared.choice.Reason.TheVariants as reason
 -- Its last item ended ten seconds ago or earlier; moments are in microseconds.
 abbrev pub is_inactive : ℕ → Holder → Bool
 is_inactive now h = nat_le (h.progress + 10000000) now
-
-abbrev pub is_background : Ground → Bool
-is_background ground.Foreground = false
-is_background ground.Background = true
-is_background ground.BackgroundEncoding = false
 
 abbrev pub is_background_decoder : Holder → Bool
 is_background_decoder h = h.decoder && is_background h.ground

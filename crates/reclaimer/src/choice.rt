@@ -2,7 +2,7 @@
 ghost use Rattle.std.specs.Prelude.{◌≡◌, IfNone, IfSome};
 ghost use Rattle.reclaimer.specs.Picks.{is_inactive as the_inactive, is_background_decoder as the_background, comes_before as the_before, first_of as the_first, is_wanted, NoneIs, IsLeast, IsPicked, IsUnpicked};
 
-use crate::holder::{Ground, Holder};
+use crate::holder::Holder;
 
 // How long a codec counts as active after its last item ended, in microseconds.
 const ACTIVITY: u64 = 10_000_000;
@@ -23,7 +23,7 @@ fn is_inactive(holder: &Holder, now: u64) -> bool
 fn is_background_decoder(holder: &Holder) -> bool
     ensures { result ≡ the_background holder.now }
 {
-    holder.decoder && matches!(holder.ground, Ground::Background)
+    holder.decoder && holder.ground.is_background()
 }
 
 fn wants(reason: Reason, now: u64, holder: &Holder) -> bool

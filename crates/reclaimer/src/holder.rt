@@ -1,15 +1,5 @@
 // Codecs that hold a coder.
-
-/// Where a codec is at work, as its host says (our choice).
-#[derive(Clone, Copy, Debug, PartialEq, Eq, Drop)]
-pub enum Ground {
-    /// Its page is in the foreground.
-    Foreground,
-    /// Its page is in the background.
-    Background,
-    /// Its page is in the background, and has an encoder at work.
-    BackgroundEncoding,
-}
+use wc_base::Ground;
 
 /// A codec that holds a coder.
 #[derive(Clone, Copy, Debug, PartialEq, Eq, Drop)]

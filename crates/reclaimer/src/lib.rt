@@ -5,4 +5,4 @@ mod choice;
 mod holder;
 
 pub use choice::pick;
-pub use holder::{Ground, Holder};
+pub use holder::Holder;

@@ -18,7 +18,7 @@ use Rattle.report_text.specs.Text.{promise_text, layout_text, third_text, outcom
 use Rattle.report_lines.specs.{Words.is_word_byte, FieldLaws.FitsOrAbsent, Laws.IsOneLine}
 use Rattle.report_lines.proofs.{FieldLaws.decimal_word, FieldLaws.hex_digits, LineLaws.duration_fits}
 use Rattle.report_lines.specs.Fits.{is_no_feed, AreNames, FitsLayout, FitsResult, FitsOutcome, FitsEntryLine, FitsEventLine, FitsBy, FitsPoolOp, FitsOp, FitsLine}
-use Rattle.report_lines.proofs.WordTables.{errors, answers, kinds, states, calls, sample_formats, picture_formats, codec_ids, roles, keys, lasts}
+use Rattle.report_lines.proofs.WordTables.{errors, answers, kinds, grounds, states, calls, sample_formats, picture_formats, codec_ids, roles, keys, lasts}
 
 record Plain (w : List ℕ) : Type 0 where
   all : list_all is_no_feed w ≡ true
@@ -88,7 +88,7 @@ turn_plain _ = search (errors.word, plain) depth 30
 
 entry_line_plain : (script : ScriptData) (e : EntryLine) → AreNames script → FitsEntryLine script e → Plain (entry_text script.callers e)
 entry_line_plain script (EntryLine.Turn word) names fits = search (turn_plain, plain) depth 30
-entry_line_plain script _ names fits = search (calls.word, answers.word, outcome_plain, names.callers_are_words, plain) depth 60
+entry_line_plain script _ names fits = search (calls.word, grounds.word, answers.word, outcome_plain, names.callers_are_words, plain) depth 60
 
 by_plain : (script : ScriptData) (who : By) → AreNames script → FitsBy script who → Plain (by_text script who)
 by_plain script (By.Caller who) names fits = search (names.callers_are_words, plain) depth 30

@@ -26,9 +26,9 @@ use Rattle.report_lines.specs.Words.{◌>>=◌, after, is_word_byte, word_at}
 use Rattle.report_lines.specs.{Fields.short, Fields.bytes_upto, FieldLaws.FitsOrAbsent}
 use Rattle.report_lines.proofs.WordLaws.{upto_again, after_again, after_only, word_again}
 use Rattle.report_lines.proofs.FieldLaws.{number_again, short_again, signed_again, number_or_dash_again, bytes_again, decimal_digits, decimal_word, decimal_not_nil, hex_word}
-use Rattle.report_lines.specs.Reading.{caller_of, codec_of, error_at, answer_at, promise_at, look_at, look_line_at, call_result_at, unit_at, layout_at, two_layouts_at, three_layouts_at, layouts_at, copied_bytes_at, copied_frame_at, copied_at, copied_line_at, outcome_at, turn_at, start_at, done_at, call_at, take_at, coder_at, refused_at, acquired_at, given_at, op_at, slot_at, made_at, cloned_at, ended_at, pool_op_at, reference_at, is_slot_word, is_pool_word, dotted_line_at, worded_result_at, worded_line_at, numbered_line_at, sound_at, image_at, chunk_at, output_at, config_at, reject_at, event_at, event_line_at, codec_at, caller_at, headed_line_at, only_line_at, line_at}
+use Rattle.report_lines.specs.Reading.{caller_of, codec_of, error_at, answer_at, promise_at, look_at, look_line_at, call_result_at, unit_at, layout_at, two_layouts_at, three_layouts_at, layouts_at, copied_bytes_at, copied_frame_at, copied_at, copied_line_at, outcome_at, turn_at, start_at, done_at, call_at, take_at, ground_at, coder_at, refused_at, acquired_at, given_at, op_at, slot_at, made_at, cloned_at, ended_at, pool_op_at, reference_at, is_slot_word, is_pool_word, dotted_line_at, worded_result_at, worded_line_at, numbered_line_at, sound_at, image_at, chunk_at, output_at, config_at, reject_at, event_at, event_line_at, codec_at, caller_at, headed_line_at, only_line_at, line_at}
 use Rattle.report_lines.specs.Fits.{AreNames, IsCaller, IsCodec, FitsLayout, no_layout, FitsLayouts, FitsResult, FitsOutcome, FitsEntryLine, FitsEventLine, FitsBy, FitsPoolOp, FitsOp, FitsLine}
-use Rattle.report_lines.proofs.WordTables.{errors, answers, kinds, states, calls, sample_formats, picture_formats, codec_ids, roles, keys, lasts}
+use Rattle.report_lines.proofs.WordTables.{errors, answers, kinds, grounds, states, calls, sample_formats, picture_formats, codec_ids, roles, keys, lasts}
 
 -- ---- names
 
@@ -197,15 +197,15 @@ result_again script step _ rest names lt fits = search (fields, answers.word, an
 
 -- ---- entries of codecs
 
--- a call's word is none of the registry's, none of the pool's and none of a take's
-call_alone : (c : CallWord) (v w x y z : Option Line)
-    → cond (is_slot_word (call_word c)) v (cond (is_pool_word (call_word c)) w (cond (bytes_eq (call_word c) (codes "unit")) x (cond (bytes_eq (call_word c) (codes "take")) y z))) ≡ z
-call_alone c v w x y z = grind arith
+-- a call's word is none of the registry's, none of the pool's, and none of a take's or a ground's
+call_alone : (c : CallWord) (u v w x y z : Option Line)
+    → cond (is_slot_word (call_word c)) v (cond (is_pool_word (call_word c)) w (cond (bytes_eq (call_word c) (codes "unit")) x (cond (bytes_eq (call_word c) (codes "take")) y (cond (bytes_eq (call_word c) (codes "ground")) u z)))) ≡ z
+call_alone c u v w x y z = grind arith
 
 entry_again : (script : ScriptData) (place : ℕ) (e : EntryLine) (rest : List ℕ) → AreNames script → place < 2 ^ 64 → FitsEntryLine script e → only_line_at script (numbered_line place (entry_text script.callers e) ++ rest) ≡ Some (Line.Entry place e)
-unfolding only_line_at numbered_line_at dotted_line_at call_at take_at worded_line_at start_at done_at
+unfolding only_line_at numbered_line_at dotted_line_at call_at take_at ground_at worded_line_at start_at done_at
 entry_again script place (EntryLine.Reclaim moment) rest names lt fits = search fields depth 20
-entry_again script place _ rest names lt fits = search (fields, calls.word, calls.again, call_alone, answer_at_again, outcome_again, turn_again, caller_again script, short_is, wide, names.callers_are_words) depth 20
+entry_again script place _ rest names lt fits = search (fields, calls.word, calls.again, call_alone, grounds.word, grounds.again, answer_at_again, outcome_again, turn_again, caller_again script, short_is, wide, names.callers_are_words) depth 20
 
 -- ---- entries of the registry and of the pool of media
 

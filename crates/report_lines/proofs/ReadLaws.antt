@@ -14,7 +14,7 @@ use Rattle.report_lines.specs.FieldLaws.{Lacks, FitsOrAbsent}
 use Rattle.report_lines.proofs.FieldFits.{bind_fits, bind_any, if_fits, upto_fits, number_fits, short_of_fits, short_fits, signed_fits, number_or_dash_fits, bytes_fits}
 use Rattle.report_text.specs.Text.{line_text}
 use Rattle.wc_base.specs.declared.who.By.{By}
-use Rattle.report_lines.specs.Reading.{caller_of, look_as, look_at, look_line_at, call_result_at, unit_at, layout_at, two_layouts_at, three_layouts_at, layouts_at, copied_bytes_at, copied_frame_at, copied_at, copied_line_at, outcome_at, start_at, done_at, call_at, take_at, by_as, by_of, refused_at, acquired_at, given_at, op_at, slot_at, made_at, cloned_at, ended_at, pool_op_at, reference_at, dotted_line_at, worded_result_at, worded_line_at, numbered_line_at, sound_at, image_at, chunk_at, output_at, without_feed, config_at, reject_at, event_at, event_line_at, codec_at, caller_at, headed_line_at, only_line_at, line_at}
+use Rattle.report_lines.specs.Reading.{caller_of, look_as, look_at, look_line_at, call_result_at, unit_at, layout_at, two_layouts_at, three_layouts_at, layouts_at, copied_bytes_at, copied_frame_at, copied_at, copied_line_at, outcome_at, start_at, done_at, call_at, take_at, ground_at, by_as, by_of, refused_at, acquired_at, given_at, op_at, slot_at, made_at, cloned_at, ended_at, pool_op_at, reference_at, dotted_line_at, worded_result_at, worded_line_at, numbered_line_at, sound_at, image_at, chunk_at, output_at, without_feed, config_at, reject_at, event_at, event_line_at, codec_at, caller_at, headed_line_at, only_line_at, line_at}
 use Rattle.report_lines.specs.Fits.{is_no_feed, IsCaller, IsCodec, FitsLayout, no_layout, FitsLayouts, FitsResult, FitsOutcome, FitsEntryLine, FitsEventLine, FitsBy, FitsPoolOp, FitsOp, FitsLine}
 
 -- ---- fields, and what is made of them
@@ -81,7 +81,7 @@ by_then : {B : Type 0} (P : B → Type 0) (script : ScriptData) (name : List ℕ
 by_then P script name m f lt = bind_fits (FitsBy script) P (by_of script name m) f (by_fits script (caller_of script.callers name) name m lt (named_fits _ script.callers))
 
 dotted_fits : (script : ScriptData) (n : ℕ) (name bs : List ℕ) → n < 2 ^ 64 → IfSome (dotted_line_at script n name bs) (FitsLine script)
-unfolding dotted_line_at call_result_at unit_at slot_at reference_at take_at call_at op_at acquired_at given_at refused_at pool_op_at made_at cloned_at ended_at
+unfolding dotted_line_at call_result_at unit_at slot_at reference_at take_at ground_at call_at op_at acquired_at given_at refused_at pool_op_at made_at cloned_at ended_at
 dotted_fits script n name bs lt = search (by_then, bind_fits FitsOp (FitsLine script), bind_fits FitsPoolOp (FitsLine script), reading) depth 40
 
 looked_fits : (script : ScriptData) (step : ℕ) (name bs : List ℕ) → step < 2 ^ 64 → IfSome (look_line_at script step name bs) (FitsLine script)

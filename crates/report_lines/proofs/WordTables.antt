@@ -4,7 +4,7 @@ use Rattle.std.specs.List.{list_all}
 use Rattle.wc_base.specs.declared.error.DomError.{DomError}
 use Rattle.report_text.specs.Words.{error_name, answer_text, state_text, sample_format_text, picture_format_text, codec_text, role_text, chunk_type_text, call_word}
 use Rattle.report_text.specs.Text.{last_text}
-use Rattle.script_types.specs.Names.{kind_text, kind_named}
+use Rattle.script_types.specs.Names.{ground_text, ground_named, kind_text, kind_named}
 use Rattle.report_lines.specs.Words.{is_word_byte}
 use Rattle.report_lines.specs.Vocabulary.{error_of, answer_of, state_of, call_of, sample_format_of, picture_format_of, codec_id_of, role_of, key_of, last_of}
 
@@ -17,6 +17,9 @@ errors = record { word = λ x. grind arith; again = λ x. grind arith }
 
 pub kinds : AreTold kind_text kind_named
 kinds = record { word = λ x. grind arith; again = λ x. grind arith }
+
+pub grounds : AreTold ground_text ground_named
+grounds = record { word = λ x. grind arith; again = λ x. grind arith }
 
 pub states : AreTold state_text state_of
 states = record { word = λ x. grind arith; again = λ x. grind arith }

@@ -80,6 +80,7 @@ FitsOutcome outcome.NoMemory = Unit {0}
 abbrev pub FitsEntryLine : ScriptData → EntryLine → Type 0
 FitsEntryLine script (entry_line.Call who call error) = FitsWho script who
 FitsEntryLine script (entry_line.Take who unit) = FitsWho script who × (unit < 2 ^ 64)
+FitsEntryLine script (entry_line.Ground who to) = FitsWho script who
 FitsEntryLine script (entry_line.Start epoch item) = (epoch < 2 ^ 64) × (item < 2 ^ 64)
 FitsEntryLine script (entry_line.Done epoch item moment outcome) = (epoch < 2 ^ 64) × (item < 2 ^ 64) × (moment < 2 ^ 64) × FitsOutcome outcome
 FitsEntryLine script (entry_line.Turn word) = Unit {0}

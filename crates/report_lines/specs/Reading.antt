@@ -23,7 +23,7 @@ use Rattle.codec_model.specs.declared.entry.TurnWord.TheVariants as turn
 use Rattle.script_types.specs.declared.script.ScriptData.{ScriptData}
 use Rattle.script_types.specs.declared.script.CodecItem.{CodecItem}
 use Rattle.script_types.specs.declared.script.CallerItem.{CallerItem}
-use Rattle.script_types.specs.Names.{kind_named}
+use Rattle.script_types.specs.Names.{ground_named, kind_named}
 use Rattle.report_text.specs.declared.result.StepResult.{StepResult}
 use Rattle.report_text.specs.declared.result.StepResult.TheVariants as result
 use Rattle.report_lines.specs.Words.{◌>>=◌, upto, after, word_at}
@@ -203,6 +203,15 @@ take_at script place name m bs = do
   unit ← number_upto 10 rest
   Some (line.Entry place (entry_line.Take (record { caller = caller; step = step }) unit.0))
 
+-- what stands behind the word is as it is written
+unfoldable pub ground_at : ScriptData → ℕ → List ℕ → ℕ → List ℕ → Option Line
+ground_at script place name m bs = do
+  caller ← caller_of script.callers name
+  step ← short m
+  w ← word_at bs
+  to ← ground_named w.0
+  Some (line.Entry place (entry_line.Ground (record { caller = caller; step = step }) to))
+
 -- Entries of the registry and of the pool of media.
 
 abbrev pub by_as : Option ℕ → ScriptData → List ℕ → ℕ → Option By
@@ -297,6 +306,7 @@ dotted_line_at script n name bs = do
       else if is_pool_word w.0 then reference_at script n name m.0 w.0 w.2
       else if bytes_eq w.0 (codes "unit") then unit_at script n name m.0 w.2
       else if bytes_eq w.0 (codes "take") then take_at script n name m.0 w.2
+      else if bytes_eq w.0 (codes "ground") then ground_at script n name m.0 w.2
       else call_at script n name m.0 w.0 w.2
 
 unfoldable pub worded_result_at : ℕ → List ℕ → List ℕ → Option Line

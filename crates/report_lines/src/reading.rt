@@ -19,7 +19,7 @@ use bytes::Bytes;
 use codec_model::{CodecState, Opening, Outcome, PromiseState, TurnWord};
 use coder_api::{SlotEntry, SlotOp};
 use report_text::{EntryLine, EventLine, Line, StepResult, line_text};
-use script_types::{CallerItem, CodecItem, ScriptData, kind_named};
+use script_types::{CallerItem, CodecItem, ScriptData, ground_named, kind_named};
 use std::alloc::Global;
 use wc_base::{By, DomError, Picture, PictureShape, Samples, SoundShape, Who};
 use wc_chunk::Chunk;
@@ -270,6 +270,19 @@ fn call_at(
     Some(Line::Entry { place, entry })
 }
 
+#[tactic(auto, unfolding(crate::specs::Reading::ground_at))]
+fn ground_at(script: &ScriptData, place: u64, name: &[u8], step: u64, bytes: &[u8]) -> Option<Line>
+    ensures { result ≡ spec.ground_at script.now place name.now step bytes.now }
+{
+    let caller = caller_of(script.callers.as_slice(), name)?;
+    let step = short(step)?;
+    let (word, _, _) = word_at(bytes)?;
+    let to = ground_named(word)?;
+    let who = Who { caller, step };
+    let entry = EntryLine::Ground { who, to };
+    Some(Line::Entry { place, entry })
+}
+
 #[tactic(auto, unfolding(crate::specs::Reading::take_at))]
 fn take_at(script: &ScriptData, place: u64, name: &[u8], step: u64, bytes: &[u8]) -> Option<Line>
     ensures { result ≡ spec.take_at script.now place name.now step bytes.now }
@@ -481,6 +494,8 @@ fn dotted_line_at(script: &ScriptData, n: u64, name: &[u8], bytes: &[u8]) -> Opt
         unit_at(script, n, name, m, rest)
     } else if is(word, "take") {
         take_at(script, n, name, m, rest)
+    } else if is(word, "ground") {
+        ground_at(script, n, name, m, rest)
     } else {
         call_at(script, n, name, m, word, rest)
     }

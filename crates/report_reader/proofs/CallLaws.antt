@@ -2,7 +2,7 @@
 use Rattle.std.proofs.Common.{arith, ◌≡◌, ℕ, Bool, true, false, List, [], ◌∷◌, Option, Some, None, refl, sym, ap, subst, ◌∙◌}
 use Rattle.std.specs.Prelude.{option_map, option_and_then}
 use Rattle.std.specs.List.{slice_get}
-use Rattle.wc_base.specs.declared.{error.DomError.DomError, who.Who.Who}
+use Rattle.wc_base.specs.{declared.error.DomError.DomError, declared.who.Who.Who, declared.ground.Ground.Ground, Grounds.own_ground_same}
 use Rattle.wc_config.specs.declared.kind.Kind.{Kind}
 use Rattle.wc_chunk.specs.declared.chunk.Chunk.{Chunk}
 use Rattle.codec_definitions.specs.declared.unit.Unit as media
@@ -18,7 +18,7 @@ use Rattle.trace_text.specs.Follow.{Recorded, steps_of, chunk_for}
 use Rattle.trace_text.specs.Fits.{HasArguments, result_in, variables_at}
 use Rattle.trace_text.specs.Report.{refusal_in, entry_line_of}
 use Rattle.report_reader.specs.declared.known.Known.{Known}
-use Rattle.report_reader.specs.Arguments.{results_of, taken_in, chunk_found, pair_for, clone_of, handed_for, is_given, is_detached, handed_in, call_of, take_of, entry_of}
+use Rattle.report_reader.specs.Arguments.{results_of, taken_in, chunk_found, pair_for, clone_of, handed_for, is_given, is_detached, handed_in, call_of, take_of, ground_of, entry_of}
 use Rattle.report_reader.proofs.StandingLaws.{IsStanding}
 
 -- ---- what a step makes
@@ -47,11 +47,15 @@ call_told files known steps k place who word error shown s x h = grind (arith, h
 take_told : (who : Who) (n : ℕ) (shown : Shown) (s : Step) (x : Call) → take_of n s ≡ Some x → IsToldBy (EntryLine.Take who n) shown (Entry.Call who x)
 take_told who n shown s x h = grind (arith, h)
 
+ground_told : (who : Who) (to : Ground) (shown : Shown) (s : Step) (x : Call) → ground_of to s ≡ Some x → IsToldBy (EntryLine.Ground who to) shown (Entry.Call who x)
+ground_told who to shown s x h = grind (arith, h)
+
 -- an entry that a line tells has that line, but for what it shows
 pub entry_told : (script : ScriptData) (files : List (List Chunk)) (known : Known) (k place : ℕ) (told : EntryLine) (x : Shown) (e : Entry) → entry_of script files known k place told ≡ Some e → IsToldBy told x e
 entry_told script files known k place (EntryLine.Call who word error) x e h =
     made_holds (IsToldBy (EntryLine.Call who word error) x) who _ _ (λ s y there is. call_told files known (steps_of script who.caller) k place who word error x s y is) e h
 entry_told script files known k place (EntryLine.Take who n) x e h = made_holds (IsToldBy (EntryLine.Take who n) x) who _ _ (λ s y there is. take_told who n x s y is) e h
+entry_told script files known k place (EntryLine.Ground who to) x e h = made_holds (IsToldBy (EntryLine.Ground who to) x) who _ _ (λ s y there is. ground_told who to x s y is) e h
 entry_told script files known k place told x e h = cc
 
 -- ---- the exception of an encode
@@ -144,6 +148,7 @@ step_again script files w known k place who shown (Step.Decode on chunk) x found
 step_again script files w known k place who shown (Step.Media (MediaStep.Encode on content)) x found made is pair own has =
     subst (λ (y : Call). HasPair known k place (Entry.Call who y) → ShowsOwn y shown → IsAgain script files known k place shown (Entry.Call who y)) (sym has.4)
     (λ pair own. rw (own, is, handed_made script files w known k place who content.step has.1 has.2 has.0 found pair made has.3) refl) pair own
+step_again script files w known k place who shown (Step.Ground on to) x found made is pair own has = rw (has, is, own_ground_same to) refl
 step_again script files w known k place who shown _ x found made is pair own has = grind (arith, has, is)
 
 -- the entry of a call has a step, and what that gives

@@ -4,6 +4,8 @@ use Rattle.std.specs.Option.{option_or}
 use Rattle.wc_base.specs.declared.error.DomError.{DomError}
 use Rattle.wc_base.specs.declared.error.DomError.TheVariants as dom
 use Rattle.wc_base.specs.declared.who.Who.{Who}
+use Rattle.wc_base.specs.declared.ground.Ground.{Ground}
+use Rattle.wc_base.specs.Grounds.{same_ground}
 use Rattle.wc_chunk.specs.declared.chunk.Chunk.{Chunk}
 use Rattle.wc_pool.specs.declared.entry.PoolEntry.{PoolEntry}
 use Rattle.wc_pool.specs.declared.entry.PoolOp.{PoolOp}
@@ -146,6 +148,11 @@ abbrev pub take_of : ℕ → Step → Option Call
 take_of n (step.Media (on_media.Take on bind kind)) = Some (call.Take n)
 take_of n _ = None
 
+-- the call that tells this ground, if the step tells it
+abbrev pub ground_of : Ground → Step → Option Call
+ground_of to (step.Ground on own) = if same_ground own to then Some (call.Ground to) else None
+ground_of to _ = None
+
 -- the entry of the call that a caller's step makes
 abbrev pub made_by : ScriptData → Who → (Step → Option Call) → Option Entry
 made_by script who made = option_map (λ x. entry.Call who x) (option_and_then made (slice_get (steps_of script who.caller) who.step))
@@ -155,6 +162,7 @@ abbrev pub entry_of : ScriptData → List (List Chunk) → Known → ℕ → ℕ
 entry_of script media known k place (entry_line.Call who called error) =
     made_by script who (call_of media known (steps_of script who.caller) k place who called error)
 entry_of script media known k place (entry_line.Take who n) = made_by script who (take_of n)
+entry_of script media known k place (entry_line.Ground who to) = made_by script who (ground_of to)
 entry_of script media known k place (entry_line.Start epoch item) = Some (entry.Start epoch item)
 entry_of script media known k place (entry_line.Done epoch item moment outcome) = Some (entry.Done epoch item moment outcome)
 entry_of script media known k place (entry_line.Turn task) = Some entry.Turn

@@ -13,7 +13,7 @@ use coder_api::Unit;
 use report_text::{CallWord, EntryLine};
 use script_types::{MediaStep, ScriptData, Step};
 use trace_text::{find_chunk, steps_of};
-use wc_base::{DomError, List, NoMemory, Who};
+use wc_base::{DomError, Ground, List, NoMemory, Who};
 use wc_chunk::Chunk;
 
 // A decode of this chunk, if there is one.
@@ -169,6 +169,16 @@ fn take_of(unit: u64, step: &Step) -> Option<Call>
     }
 }
 
+// The call that tells this ground, if the step tells it.
+fn ground_of(to: Ground, step: &Step) -> Option<Call>
+    ensures { result ≡ spec.ground_of to step.now }
+{
+    match step {
+        Step::Ground { on: _, to: own } if own.is(to) => Some(Call::Ground(to)),
+        _ => None,
+    }
+}
+
 // The call of a line that tells one by this caller's step.
 fn call_at(
     script: &ScriptData,
@@ -206,6 +216,17 @@ fn take_at(script: &ScriptData, who: Who, unit: u64) -> Option<Call>
     }
 }
 
+// The ground of a line that tells one by this caller's step.
+fn ground_at(script: &ScriptData, who: Who, to: Ground) -> Option<Call>
+    ensures { result
+        ≡ option_and_then (spec.ground_of to) (slice_get (steps_of script.now who.caller) who.step) }
+{
+    match steps_of(script, who.caller).get(who.step as usize) {
+        Some(step) => ground_of(to, step),
+        None => None,
+    }
+}
+
 // The entry of a call, if there is one.
 fn entry_with(who: Who, call: Option<Call>) -> Option<Entry>
     ensures { result ≡ option_map (λ x. Entry.Call who x) call }
@@ -217,7 +238,7 @@ fn entry_with(who: Who, call: Option<Call>) -> Option<Entry>
 }
 
 /// The entry of a line at this place of the codec with this number, with the arguments of its step. `None` where its step
-/// makes no such call and no take, decodes a chunk that is absent, or encodes a medium that is absent, or with another
+/// makes no such call, no take and no such ground, decodes a chunk that is absent, or encodes a medium that is absent, or with another
 /// exception than an encode of such a medium has, or a medium or a clone that the report does not show.
 pub fn entry_of(
     script: &ScriptData,
@@ -238,6 +259,7 @@ pub fn entry_of(
             Ok(entry_with(who, call))
         }
         EntryLine::Take { who, unit } => Ok(entry_with(who, take_at(script, who, unit))),
+        EntryLine::Ground { who, to } => Ok(entry_with(who, ground_at(script, who, to))),
         EntryLine::Start { epoch, item } => Ok(Some(Entry::Start { epoch, item })),
         EntryLine::Done {
             epoch,

@@ -266,7 +266,7 @@ held 0
 end
 ";
 
-fn script_of(alloc: Global, text: &str) -> Result<Script, Fail> {
+pub(crate) fn script_of(alloc: Global, text: &str) -> Result<Script, Fail> {
     match read_script(alloc, text.as_bytes()) {
         Ok(script) => Ok(script),
         Err(_) => Err(Fail::from("a script")),
@@ -306,8 +306,8 @@ fn fault_with(
     line_at_fault(alloc, script, text.as_bytes())
 }
 
-// In each row a text, another in its place, and the line at fault.
-fn each_is_judged(
+/// In each row a text, another in its place, and the line at fault.
+pub(crate) fn each_is_judged(
     rt: &impl Abort,
     alloc: Global,
     script: &Script,

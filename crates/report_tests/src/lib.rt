@@ -6,6 +6,8 @@ mod encode_reports_tests;
 #[cfg(test)]
 mod fields_tests;
 #[cfg(test)]
+mod ground_reports_tests;
+#[cfg(test)]
 mod report_lines_tests;
 #[cfg(test)]
 mod report_reader_tests;

@@ -5,7 +5,7 @@ use report_text::{EntryLine, Line, StepResult, line_text};
 use script_types::{CallerItem, CodecItem, Kind, ScriptData};
 use std::alloc::Global;
 use std::test::Fail;
-use wc_base::{By, List, Text, Who};
+use wc_base::{By, Ground, List, Text, Who};
 use wc_pool::PoolOp;
 use wc_video::{Layouts, PlaneLayout};
 
@@ -141,6 +141,19 @@ fn what_a_take_tells_is_read(rt: HostRuntime) -> Result<(), Fail> {
     let (line, _) = line_at(alloc, &script, b"7 a.4 take = 2\n").expect(&rt, "a take");
     let who = Who { caller: 0, step: 4 };
     let entry = EntryLine::Take { who, unit: 2 };
+    assert!(rt; line == Line::Entry { place: 7, entry });
+    Ok(())
+}
+
+#[test]
+fn what_a_ground_tells_is_read(rt: HostRuntime) -> Result<(), Fail> {
+    let alloc = rt.alloc();
+    let script = script(alloc)?;
+    let text = b"7 a.4 ground background-encoding = ok\n";
+    let (line, _) = line_at(alloc, &script, text).expect(&rt, "a ground");
+    let who = Who { caller: 0, step: 4 };
+    let to = Ground::BackgroundEncoding;
+    let entry = EntryLine::Ground { who, to };
     assert!(rt; line == Line::Entry { place: 7, entry });
     Ok(())
 }

@@ -10,8 +10,8 @@ use std::alloc::Global;
 use std::process::Abort;
 use std::test::Fail;
 use wc_base::{
-    By, DomError, List, Picture, PictureFormat, PictureShape, SampleFormat, Samples, SoundShape,
-    Text, Who,
+    By, DomError, Ground, List, Picture, PictureFormat, PictureShape, SampleFormat, Samples,
+    SoundShape, Text, Who,
 };
 use wc_chunk::Chunk;
 use wc_config::{CodecId, CoderId, Role};
@@ -200,6 +200,16 @@ fn lines_of_takes_and_encodes(rt: HostRuntime) -> Result<(), Fail> {
                 entry: encode,
             },
             "8 a.4 encode = DataError\n",
+        ),
+        (
+            Line::Entry {
+                place: 9,
+                entry: EntryLine::Ground {
+                    who,
+                    to: Ground::Foreground,
+                },
+            },
+            "9 a.4 ground foreground = ok\n",
         ),
     ];
     each_is_written(&rt, rt.alloc(), &rows)

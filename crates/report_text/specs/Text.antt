@@ -23,7 +23,7 @@ use Rattle.codec_model.specs.declared.entry.TurnWord.TheVariants as turn
 use Rattle.script_types.specs.declared.script.ScriptData.{ScriptData}
 use Rattle.script_types.specs.declared.script.CodecItem.{CodecItem}
 use Rattle.script_types.specs.declared.script.CallerItem.{CallerItem}
-use Rattle.script_types.specs.Names.{kind_text}
+use Rattle.script_types.specs.Names.{ground_text, kind_text}
 use Rattle.report_text.specs.declared.result.StepResult.{StepResult}
 use Rattle.report_text.specs.declared.result.StepResult.TheVariants as result
 use Rattle.report_text.specs.declared.line.EntryLine.{EntryLine}
@@ -97,11 +97,13 @@ turn_text (Some turn.Flushed) = codes "flushed"
 turn_text (Some turn.Dequeue) = codes "dequeue"
 turn_text (Some (turn.Close error)) = codes "close " <> error_name error
 
--- a call as `A.J configure = R`, a take as `A.J take = M`, and the entries that no caller makes by their first word
+-- a call as `A.J configure = R`, a take as `A.J take = M`, a ground as `A.J ground WORD = ok`, and the entries that no caller
+-- makes by their first word
 abbrev pub entry_text : List CallerItem → EntryLine → List ℕ
 entry_text callers (entry.Call who word error) =
     who_text callers who <> codes " " <> call_word word <> codes " = " <> answer_text error
 entry_text callers (entry.Take who unit) = who_text callers who <> codes " take = " <> decimal unit
+entry_text callers (entry.Ground who to) = who_text callers who <> codes " ground " <> ground_text to <> codes " = ok"
 entry_text callers (entry.Start epoch item) = codes "start " <> item_text epoch item
 entry_text callers (entry.Done epoch item moment outcome) =
     codes "done " <> item_text epoch item <> codes " " <> decimal moment <> codes " " <> outcome_text outcome

@@ -3,7 +3,7 @@ use crate::result::StepResult;
 use bytes::Bytes;
 use codec_model::{Opening, Outcome, TurnWord};
 use coder_api::SlotEntry;
-use wc_base::{DomError, Picture, Samples, Who};
+use wc_base::{DomError, Ground, Picture, Samples, Who};
 use wc_chunk::Chunk;
 use wc_pool::PoolEntry;
 
@@ -19,7 +19,7 @@ pub enum CallWord {
 }
 
 /// What stands on an entry's line behind its place: a call with its exception but not its arguments, a take with the number
-/// of the output, a turn with the task that it ran.
+/// of the output, a ground with its word, a turn with the task that it ran.
 #[derive(Clone, Copy, Debug, PartialEq, Eq)]
 pub enum EntryLine {
     Call {
@@ -30,6 +30,10 @@ pub enum EntryLine {
     Take {
         who: Who,
         unit: u64,
+    },
+    Ground {
+        who: Who,
+        to: Ground,
     },
     Start {
         epoch: u64,

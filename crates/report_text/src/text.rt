@@ -16,7 +16,7 @@ use crate::result::StepResult;
 use crate::words::{answer_text, call_word, error_name, state_text};
 use codec_model::{CodecState, Opening, Outcome, PromiseState, TurnWord};
 use coder_api::{SlotEntry, SlotOp};
-use script_types::{CallerItem, CodecItem, ScriptData, kind_text};
+use script_types::{CallerItem, CodecItem, ScriptData, ground_text, kind_text};
 use std::alloc::{AllocError, Global};
 use wc_base::{DomError, Who};
 use wc_pool::{PoolEntry, PoolOp};
@@ -305,6 +305,12 @@ fn push_entry(
             push_step(line, callers, who)?;
             push_text(line, " take = ")?;
             push_number(line, unit)
+        }
+        EntryLine::Ground { who, to } => {
+            push_step(line, callers, who)?;
+            push_text(line, " ground ")?;
+            push_text(line, ground_text(to))?;
+            push_text(line, " = ok")
         }
         EntryLine::Start { epoch, item } => {
             push_text(line, "start ")?;

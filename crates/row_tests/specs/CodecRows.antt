@@ -1,10 +1,12 @@
 -- The ordinary run: one configure, one decode, one flush.
-use Rattle.std.specs.Prelude.{ℕ, ◌≡◌, true, false, pos, List, [], ◌∷◌, Some, None, option_map, codes}
+use Rattle.std.specs.Prelude.{ℕ, ◌≡◌, true, false, pos, List, [], ◌∷◌, Some, None, is_some, option_map, codes}
 use Rattle.wc_config.specs.declared.config.Config.{Config}
 use Rattle.wc_config.specs.declared.config.Config.TheVariants as config
 use Rattle.wc_chunk.specs.declared.chunk.Chunk.{Chunk}
 use Rattle.wc_base.specs.declared.media.SampleFormat.TheVariants.{S16}
 use Rattle.wc_base.specs.declared.who.Who.{Who}
+use Rattle.wc_base.specs.declared.ground.Ground.{Ground}
+use Rattle.wc_base.specs.declared.ground.Ground.TheVariants.{Foreground, Background, BackgroundEncoding}
 use Rattle.wc_base.specs.declared.error.DomError.TheVariants as dom
 use Rattle.codec_definitions.specs.declared.unit.Unit as media
 use Rattle.codec_definitions.specs.declared.unit.Unit.TheVariants.{Sound}
@@ -17,7 +19,7 @@ use Rattle.codec_model.specs.declared.entry.Opening.{Opening}
 use Rattle.wc_config.specs.declared.kind.Kind.TheVariants.{AudioDecoder}
 use Rattle.codec_model.specs.Control.{Control}
 use Rattle.codec_model.specs.Replay.{replay}
-use Rattle.codec_model.specs.declared.entry.Event.TheVariants.{Output, Dequeue, Resolve, Reject, Refusal}
+use Rattle.codec_model.specs.declared.entry.Event.TheVariants.{Output, Dequeue, Resolve, Reject, Refusal, ErrorCall}
 use Rattle.codec_model.specs.Shown.{shown}
 
 -- opened with saturation 4, or 2
@@ -68,6 +70,7 @@ quiet_after = record {
   taken = 0;
   active = None;
   progress = Some 3;
+  own_ground = Foreground;
 }
 
 abbrev pub OrdinaryEnds : Type 0
@@ -118,3 +121,17 @@ closing =
 
 abbrev pub ClosingShows : Type 0
 ClosingShows = shown four closing ≡ (3, Reject 1 dom.Abort) ∷ (3, Reject 2 dom.Abort) ∷ (4, Refusal dom.InvalidState) ∷ (5, Reject 5 dom.InvalidState) ∷ []
+
+-- a decoder that is told where it is at work, after its configure ended at 1000, and is reclaimed
+abbrev pub told : Ground → ℕ → List Entry
+told at moment =
+    entry.Call (step_of 0) (call.Configure pcm) ∷ entry.Start 0 0 ∷ entry.Done 0 0 1000 (outcome.Ran 0) ∷ entry.Turn ∷ entry.Turn
+    ∷ entry.Call (step_of 1) (call.Ground at) ∷ entry.Reclaim moment ∷ []
+
+-- it is reclaimed at once in the background
+abbrev pub BackgroundShows : Type 0
+BackgroundShows = shown four (told Background 2000) ≡ (6, ErrorCall dom.QuotaExceeded) ∷ []
+
+-- elsewhere it is spared for ten seconds
+abbrev pub IsSpared : Ground → Type 0
+IsSpared at = (replay four (told at 10000999) ≡ None) × (is_some (replay four (told at 10001000)) ≡ true)

@@ -60,6 +60,7 @@ each_fits laws script n = record {
   sent = λ who x w s m may e h given few own. own _;
   removes_all = λ who x s is e h given few own. own _;
   takes = λ who unit s may h given few own. own None;
+  grounds = λ who to s h given few own. own None;
   start = λ i is epoch number s first may h given few own. (
       let last = and_parts (may_start s.control && eqb epoch s.control.epoch) (eqb number i.number) may in
       let items : AreItemsUpTo n (i ∷ is) = subst (AreItemsUpTo n) first h.queued in

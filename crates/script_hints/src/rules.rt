@@ -17,6 +17,7 @@ pub enum Wanted {
     Copied,
     Promise,
     Kind,
+    Ground,
     Saturation,
     Size,
     Text,
@@ -74,6 +75,7 @@ pub enum Form {
     Flush,
     Look,
     On,
+    Ground,
     Take,
     Hand,
     CloseData,
@@ -213,6 +215,11 @@ const LOOK: [Rule; 1] = [Rule("promise", Wanted::Promise, Need::Must)];
 
 const ON: [Rule; 1] = [Rule("on", Wanted::Codec, Need::Must)];
 
+const GROUND: [Rule; 2] = [
+    Rule("on", Wanted::Codec, Need::Must),
+    Rule("to", Wanted::Ground, Need::Must),
+];
+
 const HAND: [Rule; 2] = [
     Rule("of", Wanted::Medium, Need::Must),
     Rule("as", Wanted::Fresh, Need::Must),
@@ -254,6 +261,7 @@ pub fn rules_of(form: Form) -> &'static [Rule] {
         Form::Flush | Form::Take => &FLUSH_OR_TAKE,
         Form::Look => &LOOK,
         Form::On => &ON,
+        Form::Ground => &GROUND,
         Form::Hand => &HAND,
         Form::CloseData => &CLOSE_DATA,
         Form::Copy => &COPY,
@@ -264,7 +272,7 @@ pub fn rules_of(form: Form) -> &'static [Rule] {
 /// The words of `do`, with commas.
 pub const STEP_WORDS: &str =
     "configure, chunk, decode, audio, frame, encode, flush, poll, await, reset, close, take, \
-     state, clone, transfer, close-data, copy, size";
+     state, ground, clone, transfer, close-data, copy, size";
 
 /// What the step of this word has.
 pub fn form_of_word(word: &[u8]) -> Option<Form> {
@@ -277,6 +285,7 @@ pub fn form_of_word(word: &[u8]) -> Option<Form> {
         b"flush" => Some(Form::Flush),
         b"poll" | b"await" => Some(Form::Look),
         b"reset" | b"close" | b"state" => Some(Form::On),
+        b"ground" => Some(Form::Ground),
         b"take" => Some(Form::Take),
         b"clone" | b"transfer" => Some(Form::Hand),
         b"close-data" => Some(Form::CloseData),
@@ -300,6 +309,7 @@ pub fn words_of(wanted: Wanted) -> &'static str {
         Wanted::Copied => "the name of audio data, of a frame or of a chunk",
         Wanted::Promise => "the name of a promise",
         Wanted::Kind => "audio-decoder, audio-encoder, video-decoder or video-encoder",
+        Wanted::Ground => "foreground, background or background-encoding",
         Wanted::Saturation => "a number from 1 to 64",
         Wanted::Size => "a number up to 16777216",
         Wanted::Text => "a text",

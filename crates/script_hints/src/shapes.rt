@@ -53,7 +53,12 @@ fn tell_met(
             say_named(notes, script, owner, name, rule.wanted())?;
         } else if !matches!(
             rule.wanted(),
-            Wanted::Kind | Wanted::Hex | Wanted::Text | Wanted::Object | Wanted::Array
+            Wanted::Kind
+                | Wanted::Ground
+                | Wanted::Hex
+                | Wanted::Text
+                | Wanted::Object
+                | Wanted::Array
         ) {
             notes.say(", and a name has 1 to 32 of a to z, 0 to 9, _ and -")?;
         }

@@ -3,6 +3,7 @@
 use crate::rules::Wanted;
 use crate::scan::{byte_at, past_value, string_at};
 use crate::script::{Held, Script};
+use script_types::ground_named;
 
 /// Whose member a value is: of a step of a caller, or of anything else.
 #[derive(Clone, Copy)]
@@ -125,6 +126,7 @@ pub fn may_stand(script: &Script<'_>, owner: Owner, at: usize, wanted: Wanted) -
         Wanted::Text => string.is_some(),
         Wanted::Hex => string.is_some_and(|it| is_hex(it)),
         Wanted::Kind => string.is_some_and(|it| is_kind(it)),
+        Wanted::Ground => string.is_some_and(|it| ground_named(it).is_some()),
         Wanted::Natural => natural_at(text, at).is_some(),
         Wanted::Integer => is_integer(text, at),
         Wanted::Saturation => is_within(text, at, 1, 64),

@@ -6,9 +6,9 @@ use Rattle.script_types.specs.declared.{script.CodecItem.CodecItem, steps.Step.S
 use Rattle.chunk_files.specs.declared.fault.Stop.{Stop}
 use Rattle.script_types.specs.{declared.fault.Wrong.Wrong, Names.codec_named, Names.is_medium}
 use Rattle.script_types.specs.Sound.{encodes, takes, is_codec, any_kind, is_variable, is_free}
-use Rattle.script_steps.specs.Members.{and_then, known, name_in}
+use Rattle.script_steps.specs.Members.{and_then, needed as there, known, name_in}
 use Rattle.script_steps.specs.{declared.references.Needed.Needed, Chains.all_true, Chains.known_some}
-use Rattle.script_steps.specs.References.{is_right, unused, codec_if, variable_if, variable_in, on_of, bound_on, given_to, encoded_by, encoded_by_kind, encoded_data, bound_from}
+use Rattle.script_steps.specs.References.{is_right, unused, codec_if, variable_if, variable_in, on_of, ground_in, ground_on, bound_on, given_to, encoded_by, encoded_by_kind, encoded_data, bound_from}
 use Rattle.script_steps.specs.NameLaws.{name_is_name, name_is_free, IsThere, codec_is_there, codec_is_right, codec_is_of, variable_is_right, is_there}
 
 -- what holds of all that the rest may give, whatever the first part gives
@@ -31,6 +31,11 @@ variable_sound key kind before d =
 
 pub on_sound : (codecs : List CodecItem) (d : Data) → IfOk (on_of codecs d) (λ on. is_codec codecs any_kind on ≡ true)
 on_sound codecs d = by_part (name_in (codes "on") d) _ _ (λ on n. by_part (known (codec_named codecs on)) _ _ (codec_is_there codecs any_kind on))
+
+pub ground_on_sound : (codecs : List CodecItem) (d : Data) → IfOk (ground_on codecs d) (λ g. is_codec codecs any_kind g.0 ≡ true)
+ground_on_sound codecs d =
+    by_part (name_in (codes "on") d) _ _ (λ on n. by_part (there (ground_in d)) _ _ (λ to g.
+    by_part (known (codec_named codecs on)) _ _ (codec_is_there codecs any_kind on)))
 
 pub bound_on_sound : (codecs : List CodecItem) (before : List Step) (d : Data)
     → IfOk (bound_on codecs before d) (λ b. (right : Kind → Bool) → right b.0.kind ≡ true → (is_codec codecs right b.0.number && is_free before b.1) ≡ true)

@@ -15,7 +15,7 @@ use Rattle.script_steps.specs.Steps.{configure_of, numbered, no_file, step_by}
 use Rattle.script_steps.specs.Chains.{chain, needed_some}
 use Rattle.script_steps.proofs.{ConfigLaws.config_suits, FileLaws.file_is_counted, FileLaws.files_are_apart, MediaLaws.media_sound}
 use Rattle.script_steps.specs.NameLaws.{codec_is_there}
-use Rattle.script_steps.proofs.ReferenceLaws.{by_part, made, new_name, variable_sound, on_sound, bound_on_sound, given_to_sound}
+use Rattle.script_steps.proofs.ReferenceLaws.{by_part, made, new_name, variable_sound, on_sound, ground_on_sound, bound_on_sound, given_to_sound}
 use Rattle.script_steps.proofs.SourceLaws.{source_bytes}
 
 record SoundBy (codecs : List CodecItem) (files : List (List ℕ)) (before : List Step) (d : Data) (w : StepWord) (r : Step × List (List ℕ)) : Type 0 where
@@ -58,6 +58,7 @@ by_word codecs files before d StepWord.Await = of_part codecs files before d Ste
 by_word codecs files before d StepWord.Reset = of_part codecs files before d StepWord.Reset _ _ (on_sound codecs d) (λ on. omega arith) (λ on n. refl)
 by_word codecs files before d StepWord.Close = of_part codecs files before d StepWord.Close _ _ (on_sound codecs d) (λ on. omega arith) (λ on n. refl)
 by_word codecs files before d StepWord.State = of_part codecs files before d StepWord.State _ _ (on_sound codecs d) (λ on. omega arith) (λ on n. refl)
+by_word codecs files before d StepWord.Ground = of_part codecs files before d StepWord.Ground _ _ (ground_on_sound codecs d) (λ g. omega arith) (λ g n. refl)
 by_word codecs files before d (StepWord.Media w) =
     plain codecs files before d (StepWord.Media w) _ (made (media_by codecs before d w) Step.Media _ _ (media_sound codecs before d w) (λ m t. record { sound = t.sound; bytes = t.bytes; count = refl; apart = λ a. a }))
 

@@ -19,7 +19,7 @@ use Rattle.script_steps.specs.ConfigRead.{codec_in, rate_in, channels_in, audio_
 use Rattle.script_steps.specs.Media.{data_value, timestamp_in, duration_in, content_in, key_of, chunk_with, chunk_of, sample_format_of, sound_with, sound_of, picture_format_of, picture_with, picture_of}
 use Rattle.script_steps.specs.Sources.{has, index_in, source_by, source_of}
 use Rattle.script_steps.specs.{declared.source.SourceWords.SourceWords, declared.words.StepWord.StepWord, declared.words.MediaWord.MediaWord, declared.references.Needed.Needed}
-use Rattle.script_steps.specs.References.{unused, variable_if, bound_on, given_to, encoded_data, bound_from, on_of, variable_in}
+use Rattle.script_steps.specs.References.{unused, variable_if, bound_on, given_to, encoded_data, bound_from, on_of, ground_on, variable_in}
 use Rattle.script_steps.specs.MediaSteps.{size_in, options_in, media_by}
 use Rattle.script_steps.specs.Steps.{numbered, no_file, promise_in, step_by}
 use Rattle.script_steps.specs.Words.{word_in}
@@ -267,6 +267,7 @@ step_small codecs files before d StepWord.Await = plain files _ (free (promise_i
 step_small codecs files before d StepWord.Reset = plain files _ (free (on_of codecs d) Step.Reset (λ on. tt))
 step_small codecs files before d StepWord.Close = plain files _ (free (on_of codecs d) Step.Close (λ on. tt))
 step_small codecs files before d StepWord.State = plain files _ (free (on_of codecs d) Step.State (λ on. tt))
+step_small codecs files before d StepWord.Ground = plain files _ (free (ground_on codecs d) _ (λ g. tt))
 step_small codecs files before d (StepWord.Media w) = plain files _ (made (media_by codecs before d w) Step.Media IsSmallMedia _ (media_small codecs before d w) (λ m s. s))
 
 pub step_within : StepsAreWithin

@@ -1,5 +1,5 @@
 -- What the names in a step name, and the new name that it may give.
-use Rattle.std.specs.Prelude.{ℕ, Bool, List, codes, if◌then◌else◌, Option, Some, None, Result, Ok, Err}
+use Rattle.std.specs.Prelude.{ℕ, Bool, List, codes, if◌then◌else◌, Option, Some, None, option_and_then, Result, Ok, Err}
 use Rattle.serde_json.specs.Data.{Data}
 use Rattle.wc_config.specs.declared.kind.Kind.{Kind}
 use Rattle.wc_config.specs.declared.kind.Kind.TheVariants as kinds
@@ -9,13 +9,14 @@ use Rattle.script_types.specs.declared.found.FoundVariable.{FoundVariable}
 use Rattle.script_types.specs.declared.steps.Step.{Step}
 use Rattle.script_types.specs.declared.steps.Variable.{Variable}
 use Rattle.script_types.specs.declared.steps.VariableKind.{VariableKind}
-use Rattle.script_types.specs.Names.{codec_named, variable_named, is_variable_name, is_chunk, is_audio, is_frame, is_medium, is_copied, is_promise}
+use Rattle.wc_base.specs.declared.ground.Ground.{Ground}
+use Rattle.script_types.specs.Names.{ground_named, codec_named, variable_named, is_variable_name, is_chunk, is_audio, is_frame, is_medium, is_copied, is_promise}
 use Rattle.script_types.specs.Sound.{encodes}
 use Rattle.chunk_files.specs.declared.fault.Stop.{Stop}
 use Rattle.script_types.specs.declared.fault.Wrong.{Wrong}
 use Rattle.chunk_files.specs.declared.fault.Stop.TheVariants as stop
 use Rattle.script_types.specs.declared.fault.Wrong.TheVariants as wrong
-use Rattle.script_steps.specs.Members.{and_then, known, expected, name_in}
+use Rattle.script_steps.specs.Members.{and_then, needed as there, known, expected, text_in, name_in}
 use Rattle.script_steps.specs.declared.references.Needed.{Needed}
 use Rattle.script_steps.specs.declared.references.Needed.TheVariants as needed
 
@@ -52,6 +53,16 @@ variable_in key kind before d =
 -- the codec that a step names, where it names nothing else
 abbrev pub on_of : List CodecItem → Data → Result ℕ (Stop Wrong)
 on_of codecs d = and_then (name_in (codes "on") d) (λ on. and_then (known (codec_named codecs on)) (λ codec. Ok codec.number))
+
+-- where a codec is said to be at work
+abbrev pub ground_in : Data → Option Ground
+ground_in d = option_and_then ground_named (text_in (codes "to") d)
+
+-- a codec of any kind, and where it is at work
+abbrev pub ground_on : List CodecItem → Data → Result (ℕ × Ground) (Stop Wrong)
+ground_on codecs d =
+    and_then (name_in (codes "on") d) (λ on. and_then (there (ground_in d)) (λ to.
+    and_then (known (codec_named codecs on)) (λ codec. Ok (codec.number, to))))
 
 -- a codec of any kind, and a new name
 abbrev pub bound_on : List CodecItem → List Step → Data → Result (FoundCodec × List ℕ) (Stop Wrong)

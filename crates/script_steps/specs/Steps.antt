@@ -21,7 +21,7 @@ use Rattle.script_steps.specs.declared.words.StepWord.{StepWord}
 use Rattle.script_steps.specs.declared.words.StepWord.TheVariants as word
 use Rattle.script_steps.specs.declared.references.Needed.TheVariants as needed
 use Rattle.script_steps.specs.Words.{word_in}
-use Rattle.script_steps.specs.References.{unused, variable_in, on_of, bound_on, given_to}
+use Rattle.script_steps.specs.References.{unused, variable_in, on_of, ground_on, bound_on, given_to}
 use Rattle.script_steps.specs.MediaSteps.{media_by}
 
 abbrev pub configure_of : List CodecItem → Data → Result Step (Stop Wrong)
@@ -68,6 +68,7 @@ step_by codecs files before d word.Await = no_file files (and_then (promise_in b
 step_by codecs files before d word.Reset = no_file files (and_then (on_of codecs d) (λ on. Ok (step.Reset on)))
 step_by codecs files before d word.Close = no_file files (and_then (on_of codecs d) (λ on. Ok (step.Close on)))
 step_by codecs files before d word.State = no_file files (and_then (on_of codecs d) (λ on. Ok (step.State on)))
+step_by codecs files before d word.Ground = no_file files (and_then (ground_on codecs d) (λ g. Ok (step.Ground g.0 g.1)))
 step_by codecs files before d (word.Media m) = no_file files (and_then (media_by codecs before d m) (λ s. Ok (step.Media s)))
 
 abbrev pub step_of : List CodecItem → List (List ℕ) → List Step → Data → Result (Step × List (List ℕ)) (Stop Wrong)

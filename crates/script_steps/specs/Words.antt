@@ -32,6 +32,7 @@ word_of text =
     else if bytes_eq text (codes "reset") then Some word.Reset
     else if bytes_eq text (codes "close") then Some word.Close
     else if bytes_eq text (codes "state") then Some word.State
+    else if bytes_eq text (codes "ground") then Some word.Ground
     else option_map (λ m. word.Media m) (media_word_of text)
 
 abbrev pub word_in : Data → Option StepWord

@@ -39,6 +39,7 @@ fn read_word(text: &str) -> Option<StepWord>
         "reset" => Some(StepWord::Reset),
         "close" => Some(StepWord::Close),
         "state" => Some(StepWord::State),
+        "ground" => Some(StepWord::Ground),
         _ => Some(StepWord::Media(read_media_word(text)?)),
     }
 }

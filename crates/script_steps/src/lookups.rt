@@ -3,17 +3,19 @@ ghost use Rattle.std.specs.Prelude.{◌≡◌, ◌≢◌, ◌≤◌, IfOk, IfErr
 ghost use Rattle.json_data.specs.View.{view};
 ghost use Rattle.script_types.specs.Names as names;
 ghost use Rattle.script_types.specs.Sound.{encodes};
-ghost use Rattle.script_steps.specs.References.{unused, codec_if, variable_if, variable_of, variable_in, on_of, bound_on, given_to, encoded_data, bound_from};
+ghost use Rattle.script_steps.specs.References.{unused, codec_if, variable_if, variable_of, variable_in, on_of, ground_in, ground_on, bound_on, given_to, encoded_data, bound_from};
 ghost use Rattle.script_steps.specs.References as spec;
 ghost use Rattle.script_steps.specs.declared.references.Needed.TheVariants as needed;
 ghost use Rattle.script_types.specs.Reading.{Gives};
 
 use crate::references::Needed;
-use crate::{Stop, Variables, Wrong, copied, find_codec, name_member};
+use crate::{Stop, Variables, Wrong, copied, find_codec, name_member, text_member};
 use json_data::Value;
-use script_types::{CodecItem, FoundCodec, FoundVariable, Kind, Variable, VariableKind, decodes};
+use script_types::{
+    CodecItem, FoundCodec, FoundVariable, Kind, Variable, VariableKind, decodes, ground_named,
+};
 use std::alloc::Global;
-use wc_base::{NoMemory, Text};
+use wc_base::{Ground, NoMemory, Text};
 
 fn is_right(needed: Needed, kind: VariableKind) -> bool
     ensures { result ≡ spec.is_right needed kind }
@@ -114,6 +116,27 @@ pub fn read_on(codecs: &[CodecItem], value: &Value<'_>) -> Result<u32, Stop<Wron
     let on = name_member(value, "on")?;
     match find_codec(codecs, on) {
         Some(codec) => Ok(codec.number),
+        None => Err(Stop::Fault(Wrong::UnknownName)),
+    }
+}
+
+fn ground_member(value: &Value<'_>) -> Option<Ground>
+    ensures { result ≡ ground_in (view value.now) }
+{
+    ground_named(text_member(value, "to")?.as_bytes())
+}
+
+/// A codec of any kind, and where it is at work. `Shape` for a word of no ground comes before an unknown name.
+pub fn read_ground_on(codecs: &[CodecItem], value: &Value<'_>) -> Result<(u32, Ground), Stop<Wrong>>
+    requires { length codecs.now ≤ 64 }
+    ensures { result ≡ ground_on codecs.now (view value.now) }
+{
+    let on = name_member(value, "on")?;
+    let Some(to) = ground_member(value) else {
+        return Err(Stop::Fault(Wrong::Shape));
+    };
+    match find_codec(codecs, on) {
+        Some(codec) => Ok((codec.number, to)),
         None => Err(Stop::Fault(Wrong::UnknownName)),
     }
 }

@@ -6,7 +6,9 @@ ghost use Rattle.script_steps.specs.Words.{data_of_word};
 ghost use Rattle.script_steps.specs.Steps.{configure_of, numbered, chunk_step_of, step_by};
 ghost use Rattle.script_types.specs.Reading.{Gives, GivesAs};
 
-use crate::lookups::{read_bound_on, read_decoder_chunk, read_on, read_unused, read_variable};
+use crate::lookups::{
+    read_bound_on, read_decoder_chunk, read_ground_on, read_on, read_unused, read_variable,
+};
 use crate::media_steps::read_media_step;
 use crate::references::Needed;
 use crate::{
@@ -126,6 +128,10 @@ pub fn read_step(
         StepWord::State => Ok(Step::State {
             on: read_on(codecs, value)?,
         }),
+        StepWord::Ground => {
+            let (on, to) = read_ground_on(codecs, value)?;
+            Ok(Step::Ground { on, to })
+        }
         StepWord::Media(word) => Ok(Step::Media(read_media_step(
             alloc, codecs, before, value, word, content,
         )?)),

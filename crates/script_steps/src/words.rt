@@ -26,5 +26,6 @@ pub enum StepWord {
     Reset,
     Close,
     State,
+    Ground,
     Media(MediaWord),
 }

@@ -69,7 +69,7 @@ fn read_after(alloc: Global, text: &str) -> Result<Step, Stop<Wrong>> {
 }
 
 // One step of each word, and an encode on either kind of encoder.
-const EACH: [&str; 19] = [
+const EACH: [&str; 20] = [
     r#"{"do":"configure","on":"decoder","config":{}}"#,
     r#"{"do":"chunk","as":"x","init":{"type":"key","timestamp":1,"data":"00"}}"#,
     r#"{"do":"decode","on":"decoder","chunk":"chunk"}"#,
@@ -79,6 +79,7 @@ const EACH: [&str; 19] = [
     r#"{"do":"reset","on":"video"}"#,
     r#"{"do":"close","on":"video"}"#,
     r#"{"do":"state","on":"encoder"}"#,
+    r#"{"do":"ground","on":"encoder","to":"background-encoding"}"#,
     r#"{"do":"audio","as":"x","init":{"format":"u8"}}"#,
     r#"{"do":"frame","as":"x","init":{"format":"I420"}}"#,
     r#"{"do":"encode","on":"encoder","data":"audio"}"#,
@@ -106,6 +107,8 @@ fn others_are_wrong_in_shape(rt: HostRuntime) -> Result<(), Fail> {
         "{}",
         r#"{"do":"sleep"}"#,
         r#"{"do":"reset","on":"Video"}"#,
+        r#"{"do":"ground","on":"nobody"}"#,
+        r#"{"do":"ground","on":"video","to":"Background"}"#,
         r#"{"do":"configure","on":"nobody","config":[]}"#,
         r#"{"do":"decode","on":"encoder","chunk":"chunk"}"#,
         r#"{"do":"decode","on":"nobody","chunk":"audio"}"#,
@@ -171,6 +174,10 @@ fn names_stand_twice_or_are_unknown(rt: HostRuntime) -> Result<(), Fail> {
         ),
         (r#"{"do":"poll","promise":"decoder"}"#, Wrong::UnknownName),
         (r#"{"do":"reset","on":"audio"}"#, Wrong::UnknownName),
+        (
+            r#"{"do":"ground","on":"audio","to":"foreground"}"#,
+            Wrong::UnknownName,
+        ),
         (
             r#"{"do":"take","on":"nobody","as":"x"}"#,
             Wrong::UnknownName,

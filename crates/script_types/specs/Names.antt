@@ -3,6 +3,8 @@ use Rattle.std.specs.Prelude.{ℕ, ◌&&◌, ◌||◌, ◌==◌, nat_lt, nat_le,
 use Rattle.std.specs.List.{list_all, list_any, position, slice_get}
 use Rattle.wc_config.specs.declared.kind.Kind.{Kind}
 use Rattle.wc_config.specs.declared.kind.Kind.TheVariants as kind
+use Rattle.wc_base.specs.declared.ground.Ground.{Ground}
+use Rattle.wc_base.specs.declared.ground.Ground.TheVariants as grounds
 use Rattle.script_types.specs.declared.script.CodecItem.{CodecItem}
 use Rattle.script_types.specs.declared.script.CallerItem.{CallerItem}
 use Rattle.script_types.specs.declared.found.FoundCodec.{FoundCodec}
@@ -42,6 +44,20 @@ kind_text kind.VideoEncoder = codes "video-encoder"
 -- the kind whose word this is
 abbrev pub kind_named : List ℕ → Option Kind
 kind_named w = first_named kind_text (kind.AudioDecoder ∷ kind.AudioEncoder ∷ kind.VideoDecoder ∷ kind.VideoEncoder ∷ []) w
+
+-- ---- grounds
+
+-- the word of a ground, in scripts and in reports
+abbrev pub ground_text : Ground → List ℕ
+ground_text grounds.Foreground = codes "foreground"
+ground_text grounds.Background = codes "background"
+ground_text grounds.BackgroundEncoding = codes "background-encoding"
+
+-- the ground whose word this is
+abbrev pub ground_named : List ℕ → Option Ground
+ground_named w = first_named ground_text (grounds.Foreground ∷ grounds.Background ∷ grounds.BackgroundEncoding ∷ []) w
+
+-- ---- what kinds of codecs do
 
 abbrev pub decodes : Kind → Bool
 decodes kind.AudioDecoder = true
@@ -93,6 +109,7 @@ names_codec (step.Flush on bind) = Some on
 names_codec (step.Reset on) = Some on
 names_codec (step.Close on) = Some on
 names_codec (step.State on) = Some on
+names_codec (step.Ground on to) = Some on
 names_codec (step.Media (media.Encode on content)) = Some on
 names_codec (step.Media (media.Take on bind kind)) = Some on
 names_codec _ = None
@@ -104,6 +121,7 @@ called (step.Decode on chunk) = Some on
 called (step.Flush on bind) = Some on
 called (step.Reset on) = Some on
 called (step.Close on) = Some on
+called (step.Ground on to) = Some on
 called (step.Chunk bind source) = None
 called (step.Poll promise) = None
 called (step.Await promise) = None
@@ -150,6 +168,7 @@ binds (step.Await promise) = None
 binds (step.Reset on) = None
 binds (step.Close on) = None
 binds (step.State on) = None
+binds (step.Ground on to) = None
 binds (step.Media s) = binds_media s
 
 -- what is bound has this name

@@ -144,6 +144,7 @@ is_sound_step codecs before (step.Await promise) = is_variable before is_promise
 is_sound_step codecs before (step.Reset on) = is_codec codecs any_kind on
 is_sound_step codecs before (step.Close on) = is_codec codecs any_kind on
 is_sound_step codecs before (step.State on) = is_codec codecs any_kind on
+is_sound_step codecs before (step.Ground on to) = is_codec codecs any_kind on
 is_sound_step codecs before (step.Media s) = is_sound_media codecs before s
 
 abbrev pub are_sound_steps : List CodecItem → List Step → List Step → Bool

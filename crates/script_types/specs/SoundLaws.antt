@@ -108,6 +108,7 @@ names_within codecs before (step.Flush on bind) h = codec_within codecs any_kind
 names_within codecs before (step.Reset on) h = codec_within codecs any_kind on h
 names_within codecs before (step.Close on) h = codec_within codecs any_kind on h
 names_within codecs before (step.State on) h = codec_within codecs any_kind on h
+names_within codecs before (step.Ground on to) h = codec_within codecs any_kind on h
 names_within codecs before (step.Media (media.Encode on content)) h = codec_within codecs (takes content.kind) on (first _ _ h)
 names_within codecs before (step.Media (media.Take on bind kind)) h = codec_within codecs (gives kind) on (first _ _ h)
 names_within codecs before (step.Media x) h = tt
@@ -257,6 +258,7 @@ promise_of_flush codecs before (step.Await promise) name h is = absurd cc
 promise_of_flush codecs before (step.Reset on) name h is = absurd cc
 promise_of_flush codecs before (step.Close on) name h is = absurd cc
 promise_of_flush codecs before (step.State on) name h is = absurd cc
+promise_of_flush codecs before (step.Ground on to) name h is = absurd cc
 promise_of_flush codecs before (step.Media y) name h is = absurd (media_promise codecs before y name h is)
 
 -- ---- the order

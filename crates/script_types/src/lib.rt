@@ -14,7 +14,7 @@ pub use chunk_files::Stop;
 pub use fault::{Counted, Fault, Place, Wrong};
 pub use found::{FoundCodec, FoundVariable};
 pub use limits::limit_of;
-pub use names::{decodes, inputs_of, kind_named, kind_text, outputs_of};
+pub use names::{decodes, ground_named, ground_text, inputs_of, kind_named, kind_text, outputs_of};
 pub use options::{AudioOptions, FormatWord, FrameOptions, LayoutWords, Options, RectWords};
 pub use script::{CallerItem, CodecItem, OrderItem, Script, ScriptData};
 pub use steps::{

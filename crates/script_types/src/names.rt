@@ -5,6 +5,7 @@ ghost use Rattle.script_types.specs.Names.{binds, binds_media};
 ghost use Rattle.script_types.specs.Names as spec;
 
 use crate::{Kind, MediaStep, Step, VariableKind};
+use wc_base::Ground;
 
 /// The word of a kind, in scripts and in reports.
 pub fn kind_text(kind: Kind) -> &'static str
@@ -40,6 +41,33 @@ pub fn kind_named(word: &[u8]) -> Option<Kind>
     ensures { result ≡ spec.kind_named word.now }
 {
     first_kind(&KINDS, word)
+}
+
+/// The word of a ground, in scripts and in reports.
+pub fn ground_text(at: Ground) -> &'static str
+    ensures { result.now ≡ spec.ground_text at }
+{
+    match at {
+        Ground::Foreground => "foreground",
+        Ground::Background => "background",
+        Ground::BackgroundEncoding => "background-encoding",
+    }
+}
+
+const GROUNDS: [Ground; 3] = [
+    Ground::Foreground,
+    Ground::Background,
+    Ground::BackgroundEncoding,
+];
+
+/// The ground whose word this is.
+pub fn ground_named(word: &[u8]) -> Option<Ground>
+    ensures { result ≡ spec.ground_named word.now }
+{
+    GROUNDS
+        .iter()
+        .copied()
+        .find(|at| word == ground_text(*at).as_bytes())
 }
 
 /// Whether a codec of this kind decodes.
@@ -107,6 +135,7 @@ impl Step {
             Step::Decode { on: _, chunk: _ } => None,
             Step::Poll { promise: _ } | Step::Await { promise: _ } => None,
             Step::Reset { on: _ } | Step::Close { on: _ } | Step::State { on: _ } => None,
+            Step::Ground { on: _, to: _ } => None,
         }
     }
 }

@@ -1,7 +1,7 @@
 // The steps of callers.
 use crate::Options;
 use bytes::Bytes;
-use wc_base::{PictureShape, SoundShape, Text};
+use wc_base::{Ground, PictureShape, SoundShape, Text};
 use wc_config::Config;
 
 /// What a variable holds.
@@ -112,5 +112,7 @@ pub enum Step {
     Reset { on: u32 },
     Close { on: u32 },
     State { on: u32 },
+    /// Tells the codec where it is at work.
+    Ground { on: u32, to: Ground },
     Media(MediaStep),
 }

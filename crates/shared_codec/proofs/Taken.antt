@@ -38,6 +38,7 @@ brings_none o who Call.Flush may = refl
 brings_none o who Call.Reset may = refl
 brings_none o who Call.Close may = refl
 brings_none o who (Call.Take unit) may = refl
+brings_none o who (Call.Ground to) may = refl
 
 -- what a take hands back
 pub taken_as : (old new : Holding) (who : Who) (number : ℕ) (r : ReplyValue) → Calls old new who (Call.Take number) r [] → Calls old new who (Call.Take number) (taken_at r.place) []

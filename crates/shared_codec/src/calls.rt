@@ -54,9 +54,9 @@ pub(crate) fn has_replied<C: Coder>(reply: &Result<Reply<C>, NoMemory>) -> bool
 }
 
 impl<C: Coder> SharedCodec<C> {
-    /// A call of a caller that can be made in each state: a configure, decode, flush, reset or close, or an encode of
-    /// detached data. It answers what `Core::call` answers; what a removal lets go is handed back. Memory is wanted of a
-    /// reset, a close or an encode only where as many calls that send no message were made as the codec was opened for.
+    /// A call of a caller that can be made in each state: a configure, decode, flush, reset or close, an encode of detached
+    /// data, or a ground. It answers what `Core::call` answers; what a removal lets go is handed back. Memory is wanted of a
+    /// call that sends no message only where as many such calls were made as the codec was opened for.
     pub fn call<R: Wait>(
         &self,
         rt: &R,

@@ -1,10 +1,11 @@
 // Flushes of a shared codec, with ample memory.
 use crate::flushes::{flush_and_look, flush_both, open_codec};
+use crate::grounds::tell_and_look;
 use codec_core::Core;
-use codec_model::{Call, Entry, PromiseState};
+use codec_model::{Call, Entry, Kind, PromiseState};
 use sample_coder::SampleCoder;
 use std::test::*;
-use wc_base::DomError;
+use wc_base::{DomError, Ground};
 
 // Whether each caller's flushes stand in the history once and in order, so many of each, and no other entry.
 fn are_both(core: &Core<SampleCoder>, count: u32) -> bool {
@@ -44,6 +45,18 @@ fn a_flush_through_two_seats(rt: HostRuntime) -> Result<(), Fail> {
         assert!(rt; looks.others_entries >= 1);
         assert_eq!(rt; core.core().look().0, 1);
     }
+    Ok(())
+}
+
+#[test]
+fn a_ground_is_seen(rt: HostRuntime) -> Result<(), Fail> {
+    let (codec, mut seat) = open_codec(rt.alloc(), 1)?;
+    let to = Ground::Background;
+    let told = tell_and_look(&rt, &codec, &mut seat, to);
+    let core = codec.finish(seat);
+    assert_eq!(rt; (told.place, told.at), (Some(0), to));
+    assert_eq!(rt; told.holding, (None, to, Kind::AudioDecoder));
+    assert_eq!(rt; core.core().look().0, 1);
     Ok(())
 }
 

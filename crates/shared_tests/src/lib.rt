@@ -5,6 +5,7 @@ mod desk;
 #[cfg(test)]
 mod flush_tests;
 mod flushes;
+mod grounds;
 mod parts;
 mod pools;
 #[cfg(test)]

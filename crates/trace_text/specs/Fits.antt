@@ -162,6 +162,7 @@ HasArguments s media vs c x (step.Decode on chunk) = (value : Chunk) × (chunk_f
 HasArguments s media vs c x (step.Flush on bind) = x ≡ call.Flush
 HasArguments s media vs c x (step.Reset on) = x ≡ call.Reset
 HasArguments s media vs c x (step.Close on) = x ≡ call.Close
+HasArguments s media vs c x (step.Ground on to) = x ≡ call.Ground to
 HasArguments s media vs c x (step.Media (on_media.Encode on content)) =
     (y : Lendable) × (number : ℕ) × (accepts : Bool) × (lendable_at vs content.step ≡ Some y) × (x ≡ call.Encode (handed_of number accepts y))
 HasArguments s media vs c x (step.Media (on_media.Take on bind kind)) = (n : ℕ) × (x ≡ call.Take n)
@@ -171,7 +172,7 @@ abbrev pub ArgumentsAreIn : ScriptData → List (List Chunk) → Recorded → Ty
 ArgumentsAreIn s media w = (k p : ℕ) (who : Who) (x : Call) → entry_in w k p ≡ Some (entry.Call who x) →
     (y : Step) × (step_in s who.caller who.step ≡ Some y) × HasArguments s media (variables_at s media w who.caller who.step) who.caller x y
 
--- The config, chunk or medium of a call are what the script, its chunk files and the caller's earlier steps give.
+-- The config, chunk, medium or ground of a call are what the script, its chunk files and the caller's earlier steps give.
 abbrev pub ArgumentsAreTheScripts : ScriptData → List (List Chunk) → Run → Type 0
 ArgumentsAreTheScripts s media run = ArgumentsAreIn s media (recorded_of run)
 

@@ -281,6 +281,7 @@ step_move s media who (step.Await promise) v = Answer who.caller (look_of_flush 
 step_move s media who (step.Reset on) v = Ask who on call.Reset
 step_move s media who (step.Close on) v = Ask who on call.Close
 step_move s media who (step.State on) v = Answer who.caller (look_of_state on (codec_at on v.codecs))
+step_move s media who (step.Ground on to) v = Ask who on (call.Ground to)
 step_move s media who (step.Media x) v = media_move s media who x v
 
 abbrev pub next_move : ScriptData → List (List Chunk) → Who → Option Step → Course → Move

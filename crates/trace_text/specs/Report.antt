@@ -76,7 +76,7 @@ abbrev pub refusal_in : List Event → Option DomError
 refusal_in (event.Refusal error ∷ events) = Some error
 refusal_in _ = None
 
--- what stands on the line of a call: its exception, if it has one, or the number of the output that it takes
+-- what stands on the line of a call: its exception, if it has one, or the number of the output that it takes, or its ground
 abbrev pub call_line_of : Who → Call → Option DomError → EntryLine
 call_line_of who (call.Configure config) error = entry_line.Call who word.Configure error
 call_line_of who (call.Decode chunk) error = entry_line.Call who word.Decode error
@@ -85,6 +85,7 @@ call_line_of who call.Flush error = entry_line.Call who word.Flush error
 call_line_of who call.Reset error = entry_line.Call who word.Reset error
 call_line_of who call.Close error = entry_line.Call who word.Close error
 call_line_of who (call.Take unit) error = entry_line.Take who unit
+call_line_of who (call.Ground to) error = entry_line.Ground who to
 
 -- what stands on an entry's line behind its place; on that of a turn the task that it ran
 abbrev pub entry_line_of : Entry → Shown → EntryLine

@@ -44,6 +44,7 @@ fn call_line(who: Who, call: &Call, error: Option<DomError>) -> EntryLine
         Call::Reset => CallWord::Reset,
         Call::Close => CallWord::Close,
         Call::Take(unit) => return EntryLine::Take { who, unit: *unit },
+        Call::Ground(to) => return EntryLine::Ground { who, to: *to },
     };
     EntryLine::Call { who, call, error }
 }

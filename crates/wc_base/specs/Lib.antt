@@ -1,5 +1,6 @@
 pub mod Causes
 pub mod Failures
+pub mod Grounds
 pub mod Told
 pub mod Held
 pub mod Kept

@@ -4,6 +4,7 @@
 
 mod error;
 mod files;
+mod ground;
 mod list;
 mod media;
 mod seat;
@@ -13,6 +14,7 @@ mod who;
 
 pub use error::{DomError, Failed, NoMemory};
 pub use files::{FileFault, Files, MemFiles, SystemFiles};
+pub use ground::Ground;
 pub use list::{List, try_push};
 pub use media::{Picture, PictureFormat, PictureShape, SampleFormat, Samples, SoundShape};
 pub use seat::{Passage, Phase, Token, View};

@@ -489,6 +489,7 @@ impl<C: Coder> Player<C> {
             Step::Reset { on } => self.call(who, *on, Call::Reset),
             Step::Close { on } => self.call(who, *on, Call::Close),
             Step::State { on } => self.look_at_state(who, *on),
+            Step::Ground { on, to } => self.call(who, *on, Call::Ground(*to)),
             Step::Media(handled) => self.on_media(alloc, media, steps, who, handled, script),
         }
     }

@@ -14,6 +14,8 @@ mod faults;
 mod flac_encode_rows;
 #[cfg(test)]
 mod flac_rows;
+#[cfg(test)]
+mod ground_rows;
 mod help;
 mod hints;
 mod laws;
