@@ -7,13 +7,13 @@ use Rattle.wc_base.specs.declared.who.Who.{Who}
 use Rattle.wc_chunk.specs.declared.chunk.Chunk.{Chunk}
 use Rattle.codec_definitions.specs.declared.unit.Unit as output
 use Rattle.codec_definitions.specs.declared.unit.Unit.TheVariants as unit
-use Rattle.wc_pool.specs.{declared.entry.PoolEntry.PoolEntry, Bag.references_made}
+use Rattle.wc_pool.specs.declared.entry.PoolEntry.{PoolEntry}
 use Rattle.codec_model.specs.declared.entry.MediaShape.{MediaShape}
 use Rattle.script_types.specs.declared.steps.{VariableKind.VariableKind, MediaStep.MediaStep, Step.Step}
 use Rattle.report_text.specs.declared.result.StepResult.{StepResult}
 use Rattle.media_variables.specs.CameLaws.{EachCame, came_each}
-use Rattle.media_variables.specs.Variables.{Reference, Shape, SoundOf, PictureOf, ChunkOf, Medium, Came, Taken, Brought, Lendable, medium_at, with_medium, detached, unit_came, chunk_in_medium, lendable_in, media_came}
-use Rattle.media_accounts.specs.Accounts.{step_by, before_step, media_of, variables_by, variables_in}
+use Rattle.media_variables.specs.Variables.{Reference, Shape, SoundOf, PictureOf, ChunkOf, Medium, Numbers, Came, Taken, Brought, Lendable, medium_at, with_medium, detached, unit_came, chunk_in_medium, lendable_in, media_came}
+use Rattle.media_accounts.specs.Accounts.{step_by, ops_by, numbers_of, media_of, variables_by, variables_in}
 use Rattle.codec_model.specs.declared.entry.Content.{Content}
 use Rattle.media_accounts.specs.Contents.{content_of_unit, chunk_of_unit, content_by, content_before, IsTakenBy, ContentsAreKept, ChunksAreTaken}
 
@@ -78,7 +78,7 @@ record IsStep (f g : ℕ → Option Content) (taken : ℕ → Option output.Unit
   took : (on : ℕ) (bind : List ℕ) (kind : VariableKind) (t : Taken) → x ≡ MediaStep.Take on bind kind → b.taken ≡ Some t → taken n ≡ Some t.unit
   gives : g n ≡ content_by f (taken n) (Step.Media x)
 
-module _ (p : List PoolEntry) (who : Who) (f g : ℕ → Option Content) (taken : ℕ → Option output.Unit) (later : Later f g who.step) where
+module _ (p : Numbers) (who : Who) (f g : ℕ → Option Content) (taken : ℕ → Option output.Unit) (later : Later f g who.step) where
   abbrev After : List (Option Medium) → Type 0
   After ws = AreAll g taken (suc who.step) ws
 
@@ -107,7 +107,7 @@ module _ (p : List PoolEntry) (who : Who) (f g : ℕ → Option Content) (taken 
       frame = λ bind i k. given_one vs all _ k.gives;
       takes = λ on bind kind t is k. unit_all vs all t.answer t.unit (k.took on bind kind t refl is) k.gives;
       clones = λ of bind m r is holds k.
-          given_one vs all _ (handed_on (f of.step) (g who.step) (taken of.step) (taken who.step) m.shape m.held r (record r { number = references_made p }) k.gives refl holds (all of.step m is).1);
+          given_one vs all _ (handed_on (f of.step) (g who.step) (taken of.step) (taken who.step) m.shape m.held r (record r { number = p.reference }) k.gives refl holds (all of.step m is).1);
       transfers = λ of bind m r is holds k.
           given_one (with_medium of.step (detached m) vs) (detached_one f taken who.step vs of.step m is all) m
           (subst (IsOf (g who.step) (taken who.step) m.shape) (sym holds) (handed_on (f of.step) (g who.step) (taken of.step) (taken who.step) m.shape m.held r r k.gives refl holds (all of.step m is).1));
@@ -138,7 +138,7 @@ all_steps : (steps : ℕ → List Step) (brought : ℕ → ℕ → MediaStep →
 all_steps steps brought pool c taken zero took = λ j m is. absurd cc
 all_steps steps brought pool c taken (suc n) took =
     let before : Later (content_before (steps c) taken n) (content_before (steps c) taken (suc n)) n = λ j lt. rw (ne_eqb j n (λ is. omega (arith, lt, is))) refl in
-    step_all (before_step c n pool) (step_by c n) (content_before (steps c) taken n) (content_before (steps c) taken (suc n)) taken before (variables_in steps brought pool c n) (all_steps steps brought pool c taken n took)
+    step_all (numbers_of (ops_by c n pool)) (step_by c n) (content_before (steps c) taken n) (content_before (steps c) taken (suc n)) taken before (variables_in steps brought pool c n) (all_steps steps brought pool c taken n took)
     (brought c n) (slice_get (steps c) n) (λ on bind kind t is has. took n on bind kind t is has) (rw (eq-eqb n n refl) refl)
 
 -- ---- the laws

@@ -1,5 +1,5 @@
 -- One entry more of a codec.
-use Rattle.std.proofs.Common.{ℕ, zero, suc, ◌≡◌, ◌≢◌, ◌<◌, ◌+◌, inl, inr, true, false, ltb, List, [], ◌∷◌, ◌++◌, length, Option, Some, refl, ap, sym, subst, ◌∙◌, arith}
+use Rattle.std.proofs.Common.{ℕ, zero, suc, ◌≡◌, ◌≢◌, ◌<◌, ◌+◌, inl, inr, List, [], ◌∷◌, ◌++◌, length, Option, Some, refl, ap, sym, subst, ◌∙◌, arith}
 use Rattle.std.specs.Prelude.{map, slice_get}
 use Rattle.std.proofs.lemmas.Bool.{cases_eq}
 use Rattle.std.proofs.lemmas.List.{map-append}
@@ -12,8 +12,8 @@ use Rattle.codec_model.specs.Held.{adds_held, lets_go, leaves_held}
 use Rattle.script_types.specs.declared.steps.{MediaStep.MediaStep, Step.Step}
 use Rattle.media_variables.specs.Variables.{Medium, Media, Brought}
 use Rattle.media_variables.specs.Held.{AreHeld, AreApart}
-use Rattle.media_accounts.specs.Accounts.{is_by_step, ops_where, is_by_entry, ops_of_entry, without_last, pool_by, owes, came_in, variables_in, MediaAreIn, Lending, MediaStand, MayAdd, AreParts, EntryMore, EntryStands, EntriesStand}
-use Rattle.media_accounts.proofs.Pools.{get_either, by_one, by_place, own_place, other_place, its_cause, before_stays, ops_more, ops_all, ops_kept, legal_from}
+use Rattle.media_accounts.specs.Accounts.{is_by_step, ops_where, is_by_entry, ops_of_entry, without_last, pool_by, came_in, variables_in, MediaAreIn, Lending, MediaStand, MayAdd, AreParts, EntryMore, EntryStands, EntriesStand}
+use Rattle.media_accounts.proofs.Pools.{get_either, by_one, by_place, own_place, other_place, ops_more, ops_all, ops_kept, own_kept, of_same, legal_from}
 use Rattle.media_accounts.proofs.Steps.{ComesToo, variables_stay, came_stays, comes_too}
 use Rattle.media_accounts.proofs.Ends.{Grows, clone_grows, ends_grow, all_done}
 
@@ -101,7 +101,7 @@ module _ (numbered : LiveAreNumbered) (steps : ℕ → List Step) (brought : ℕ
   -- ---- the account
 
   comes_still : (c j : ℕ) → ComesToo steps brought brought m.pool longer c j
-  comes_still c j = comes_too steps brought m.pool longer c j (before_stays c j [] m.pool new cause grows.its refl)
+  comes_still c j = comes_too steps brought m.pool longer c j (ops_kept (is_by_step c j) cause m.pool new grows.its refl)
 
   came_same : (c j : ℕ) → came_in steps brought longer c j ≡ came_in steps brought m.pool c j
   came_same c j = came_stays steps brought brought m.pool longer c j (λ i le. comes_still c i)
@@ -122,19 +122,11 @@ module _ (numbered : LiveAreNumbered) (steps : ℕ → List Step) (brought : ℕ
       ∙ (ap (λ (o : List PoolOp). o ++ map without_last now) (st.accounted.codecs k place ∙ more.fresh)
       ∙ (ap (map without_last) (ops_all (is_by_entry k place) cause new grows.its (own_place k place)) ∙ (all_done cause m.pool (adds_held e) (lets_go e s) ∙ sym more.lends))))
 
-  -- an entry of a step was there
-  of_step : (c j n : ℕ) (d : PoolEntry) → slice_get longer n ≡ Some d → is_by_step c j d.by ≡ true → slice_get m.pool n ≡ Some d
-  of_step c j n d is its = elim (get_either m.pool new n d is) [
-    | inl was ↦ was.0
-    | inr same ↦ absurd (let bad : false ≡ true = sym (ap (is_by_step c j) (its_cause new cause same.0 d grows.its same.2)) ∙ its in cc)
-  ]
-
   accounted : MediaAreIn steps brought later.lends made longer
   accounted = record {
     legal = legal_from [] m.pool new st.accounted.legal grows.legal;
-    owed = λ c j. ops_kept (is_by_step c j) cause m.pool new grows.its refl ∙ (st.accounted.owed c j ∙ ap (owes (ltb j (made c))) (sym (came_same c j)));
+    own = λ c. own_kept c cause m.pool new grows.its (λ o. refl) ∙ (st.accounted.own c ∙ of_same (came_in steps brought m.pool c) (came_in steps brought longer c) (made c) (λ j lt. sym (came_same c j)));
     codecs = by_place (λ l n. ops_of_entry l n longer ≡ later.lends l n) k place lent_here lent_other;
-    rises = λ c i j a b d f lt one two its others. st.accounted.rises c i j a b d f lt (of_step c i a d one its) (of_step c j b f two others) its others;
   }
 
   -- ---- references

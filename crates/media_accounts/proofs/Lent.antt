@@ -7,7 +7,7 @@ use Rattle.wc_base.specs.declared.{media.SampleFormat.SampleFormat, who.Who.Who}
 use Rattle.wc_pool.specs.{declared.entry.PoolEntry.PoolEntry, Bag.resource_of, Bag.is_legal_pool}
 use Rattle.codec_model.specs.declared.entry.Pair.{Pair}
 use Rattle.script_types.specs.declared.steps.MediaStep.{MediaStep}
-use Rattle.media_variables.specs.Variables.{Reference, SoundOf, Medium, Came, Brought, medium_at, variables_of, media_came, entries_of}
+use Rattle.media_variables.specs.Variables.{Reference, SoundOf, Medium, Came, Brought, next_numbers, medium_at, variables_of, media_came, entries_of}
 use Rattle.media_variables.specs.Held.{held_by, reference_at, AreHeld, AreApart, StayHeld}
 
 -- ---- lists of variables
@@ -105,13 +105,13 @@ drop_holders pool all ps h =
 
 -- references that are apart from all variables stay so, whatever a step on media comes to
 pub stay_apart : StayHeld → (pool : List PoolEntry) (who : Who) (all : List (List (Option Medium))) (b : Brought) (x : MediaStep) (y : Came) (ps : List Pair)
-    → is_legal_pool pool ≡ true → who.caller < length all → AreHeld pool all → AreApart pool all ps → media_came pool who b x (variables_of who.caller all) ≡ Some y
-    → AreApart (pool ++ entries_of who y.does) (slice_set all who.caller y.variables) ps
+    → is_legal_pool pool ≡ true → who.caller < length all → AreHeld pool all → AreApart pool all ps → media_came (next_numbers pool) who b x (variables_of who.caller all) ≡ Some y
+    → AreApart (pool ++ entries_of pool who y.does) (slice_set all who.caller y.variables) ps
 stay_apart stay pool who all b x y ps legal lt h a comes =
     let more = with_holders all ps in
     let long : length more ≡ length all + 1 = length-append all (holders ps ∷ []) in
     let here : variables_of who.caller more ≡ variables_of who.caller all = variables_before who.caller (holders ps) all (λ e. omega (arith, lt, e)) in
-    let comes_too : media_came pool who b x (variables_of who.caller more) ≡ Some y = ap (media_came pool who b x) here ∙ comes in
+    let comes_too : media_came (next_numbers pool) who b x (variables_of who.caller more) ≡ Some y = ap (media_came (next_numbers pool) who b x) here ∙ comes in
     let kept = stay pool who more b x y legal (omega (arith, lt, long)) (add_holders pool all ps h a) comes_too in
-    drop_holders (pool ++ entries_of who y.does) (slice_set all who.caller y.variables) ps
-    (subst (λ (l : List (List (Option Medium))). AreHeld (pool ++ entries_of who y.does) l) (set-append_left all (holders ps ∷ []) who.caller y.variables lt) kept)
+    drop_holders (pool ++ entries_of pool who y.does) (slice_set all who.caller y.variables) ps
+    (subst (λ (l : List (List (Option Medium))). AreHeld (pool ++ entries_of pool who y.does) l) (set-append_left all (holders ps ∷ []) who.caller y.variables lt) kept)

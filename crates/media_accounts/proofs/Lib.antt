@@ -1,5 +1,4 @@
 pub mod Pools
-pub mod Free
 pub mod Steps
 pub mod Lent
 pub mod Ends

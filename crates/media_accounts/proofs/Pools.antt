@@ -1,10 +1,11 @@
 -- A pool's history with more entries.
-use Rattle.std.proofs.Common.{ℕ, zero, suc, ◌≡◌, ◌≢◌, ◌<◌, ◌+◌, ◌⊎◌, inl, inr, Bool, eqb, true, false, cond, List, [], ◌∷◌, ◌++◌, length, Some, refl, ap, sym, subst, ◌∙◌, arith, append_assoc, append-nil}
+use Rattle.std.proofs.Common.{ℕ, zero, suc, ◌≡◌, ◌≢◌, ◌<◌, ◌+◌, ◌⊎◌, inl, inr, Bool, eqb, true, false, cond, List, [], ◌∷◌, ◌++◌, length, Option, Some, refl, ap, sym, subst, ◌∙◌, arith, append_assoc, append-nil}
 use Rattle.std.specs.Prelude.{map, slice_get, ◌&&◌}
 use Rattle.std.proofs.lemmas.Bool.{and_parts, and_from, cases_eq, eqb-true, eq-eqb, false_from_ne_true}
 use Rattle.wc_base.specs.declared.who.By.{By}
 use Rattle.wc_pool.specs.{declared.entry.PoolEntry.PoolEntry, declared.entry.PoolOp.PoolOp, Bag.is_legal_next, Bag.is_legal_from}
-use Rattle.media_accounts.specs.Accounts.{is_by_step, before_from, ops_where, ops_by}
+use Rattle.media_variables.specs.Variables.{Came}
+use Rattle.media_accounts.specs.Accounts.{StepOp, is_by_step, ops_where, ops_by, done_by, step_op, own_by, own_in, own_of}
 
 -- ---- lists
 
@@ -49,24 +50,10 @@ cond_more : {X : Type 0} (b : Bool) (x : X) (l k : List X) → cond b (x ∷ l +
 cond_more true x l k = refl
 cond_more false x l k = refl
 
--- what stands before the first entry of a step that had none
-pub before_new : (c j : ℕ) (seen pool : List PoolEntry) (e : PoolEntry) → ops_by c j pool ≡ [] → is_by_step c j e.by ≡ true → before_from c j seen (pool ++ e ∷ []) ≡ seen ++ pool
-before_new c j seen [] e none is = ap (λ (b : Bool). cond b seen []) is ∙ sym (append-nil seen)
-before_new c j seen (d ∷ ds) e none is =
-    let ahead = cond_none (is_by_step c j d.by) d.op (ops_by c j ds) none in
-    ap (λ (b : Bool). cond b seen (before_from c j (seen ++ d ∷ []) (ds ++ e ∷ []))) ahead.0
-    ∙ (before_new c j (seen ++ d ∷ []) ds e ahead.1 is ∙ append_assoc seen (d ∷ []) ds)
-
 -- what was done by causes that pass a test, with more entries
 pub ops_more : (test : By → Bool) (pool new : List PoolEntry) → ops_where test (pool ++ new) ≡ ops_where test pool ++ ops_where test new
 ops_more test [] new = refl
 ops_more test (d ∷ ds) new = ap (λ (l : List PoolOp). cond (test d.by) (d.op ∷ l) l) (ops_more test ds new) ∙ cond_more (test d.by) d.op (ops_where test ds) (ops_where test new)
-
--- a step that did nothing has no entry
-pub ops_some : (c j n : ℕ) (pool : List PoolEntry) (e : PoolEntry) → slice_get pool n ≡ Some e → ops_by c j pool ≡ [] → is_by_step c j e.by ≡ false
-ops_some c j n [] e is none = absurd cc
-ops_some c j zero (d ∷ ds) e is none = (let same : d ≡ e = cc in ap (λ (x : PoolEntry). is_by_step c j x.by) (sym same) ∙ (cond_none (is_by_step c j d.by) d.op (ops_by c j ds) none).0)
-ops_some c j (suc n) (d ∷ ds) e is none = ops_some c j n ds e is (cond_none (is_by_step c j d.by) d.op (ops_by c j ds) none).1
 
 -- ---- entries of one cause
 
@@ -93,12 +80,26 @@ ops_all test cause (e ∷ es) all its = ap (λ (b : Bool). cond b (e.op ∷ ops_
 pub ops_kept : (test : By → Bool) (cause : By) (pool new : List PoolEntry) → AllBy cause new → test cause ≡ false → ops_where test (pool ++ new) ≡ ops_where test pool
 ops_kept test cause pool new all other = ops_more test pool new ∙ (ap (λ (l : List PoolOp). ops_where test pool ++ l) (ops_none test cause new all other) ∙ append-nil (ops_where test pool))
 
--- what stands before a step's entry is the same where all that is new is of another cause
-pub before_stays : (c j : ℕ) (seen pool new : List PoolEntry) (cause : By) → AllBy cause new → is_by_step c j cause ≡ false → before_from c j seen (pool ++ new) ≡ before_from c j seen pool
-before_stays c j seen [] [] cause all other = refl
-before_stays c j seen [] (e ∷ es) cause all other =
-    ap (λ (b : Bool). cond b seen (before_from c j (seen ++ e ∷ []) es)) (ap (is_by_step c j) all.0 ∙ other) ∙ before_stays c j (seen ++ e ∷ []) [] es cause all.1 other
-before_stays c j seen (d ∷ ds) new cause all other = ap (λ (l : List PoolEntry). cond (is_by_step c j d.by) seen l) (before_stays c j (seen ++ d ∷ []) ds new cause all other)
+-- ---- what the steps of one caller did
+
+pub own_both : (c : ℕ) (pool new : List PoolEntry) → own_in c (pool ++ new) ≡ own_in c pool ++ own_in c new
+own_both c [] new = refl
+own_both c (e ∷ es) new = ap (λ (l : List StepOp). own_by c e.by e.op ++ l) (own_both c es new) ∙ sym (append_assoc (own_by c e.by e.op) (own_in c es) (own_in c new))
+
+own_none : (c : ℕ) (cause : By) (new : List PoolEntry) → AllBy cause new → ((o : PoolOp) → own_by c cause o ≡ []) → own_in c new ≡ []
+own_none c cause [] all other = refl
+own_none c cause (e ∷ es) all other = ap (λ (l : List StepOp). l ++ own_in c es) (ap (λ (b : By). own_by c b e.op) all.0 ∙ other e.op) ∙ own_none c cause es all.1 other
+
+-- entries of other causes change nothing
+pub own_kept : (c : ℕ) (cause : By) (pool new : List PoolEntry) → AllBy cause new → ((o : PoolOp) → own_by c cause o ≡ []) → own_in c (pool ++ new) ≡ own_in c pool
+own_kept c cause pool new all other = own_both c pool new ∙ (ap (λ (l : List StepOp). own_in c pool ++ l) (own_none c cause new all other) ∙ append-nil (own_in c pool))
+
+-- the same of what steps call for, as far as each comes to the same
+pub of_same : (f g : ℕ → Option Came) (n : ℕ) → ((i : ℕ) → i < n → f i ≡ g i) → own_of f n ≡ own_of g n
+of_same f g zero same = refl
+of_same f g (suc n) same =
+    ap (λ (l : List StepOp). l ++ map (step_op n) (done_by (f n))) (of_same f g n (λ i lt. same i (omega (arith, lt))))
+    ∙ ap (λ (y : Option Came). own_of g n ++ map (step_op n) (done_by y)) (same n (omega arith))
 
 -- ---- what is legal
 

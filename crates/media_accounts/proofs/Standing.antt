@@ -1,16 +1,16 @@
 -- What stands of all callers' media.
 use Rattle.std.proofs.Common.{ℕ, zero, suc, ◌≡◌, ◌≢◌, ◌<◌, Bool, true, List, [], ◌∷◌, ◌++◌, length, map, Option, Some, None, refl, ap, sym, ◌∙◌, arith}
 use Rattle.std.specs.Prelude.{slice_get, slice_set, option_and_then}
-use Rattle.std.proofs.lemmas.Bool.{and_from, le-ltb}
+use Rattle.std.proofs.lemmas.Bool.{and_from}
 use Rattle.std.proofs.lemmas.List.{append-nil, get_or-set_same, get_or-set_other, length-map, length-set}
 use Rattle.script_types.specs.declared.{script.CallerItem.CallerItem, steps.MediaStep.MediaStep, steps.Step.Step}
 use Rattle.wc_base.specs.declared.who.{By.By, Who.Who}
 use Rattle.wc_pool.specs.{declared.entry.PoolOp.PoolOp, Bag.is_legal_next, Bag.is_legal_from, declared.entry.PoolEntry.PoolEntry}
-use Rattle.media_variables.specs.Variables.{Medium, Media, Came, Brought, media_came, entries_of, variables_of}
+use Rattle.media_variables.specs.Variables.{Medium, Media, Numbers, Came, Brought, next_numbers, media_came, flag_behind, entry_of, entries_of, variables_of}
 use Rattle.media_variables.specs.Held.{AreHeld, StayHeld, DoLegally}
-use Rattle.media_accounts.specs.Accounts.{step_by, before_step, media_of, variables_by, owes, came_on, came_in, variables_in, Lending, AreLent, OneMore, MediaStand, NothingStands, StepsStand, OthersStand, LaterStand}
-use Rattle.media_accounts.proofs.{Pools.by_one, Lent.variables_at, Lent.stay_apart}
-use Rattle.media_accounts.proofs.Steps.{ComesToo, variables_stay, came_stays, owes_same, comes_there, came_before, came_now, variables_now, variables_others, grown}
+use Rattle.media_accounts.specs.Accounts.{step_by, ops_by, numbers_of, media_of, variables_by, came_on, came_in, variables_in, Lending, AreLent, OneMore, MediaStand, NothingStands, StepsStand, OthersStand, LaterStand}
+use Rattle.media_accounts.proofs.{Pools.by_one, Pools.of_same, Lent.variables_at, Lent.stay_apart}
+use Rattle.media_accounts.proofs.Steps.{ComesToo, variables_stay, came_stays, comes_there, came_before, came_now, variables_now, variables_others, grown}
 
 -- ---- lists of variables
 
@@ -20,9 +20,9 @@ none_there (x ∷ xs) zero = refl
 none_there (x ∷ xs) (suc c) = none_there xs c
 
 -- the entry of a step is legal, if it makes one
-entries_legal : (pool : List PoolEntry) (who : Who) (o : Option PoolOp) → ((e : PoolEntry) → entries_of who o ≡ e ∷ [] → is_legal_next pool e ≡ true) → is_legal_from pool (entries_of who o) ≡ true
+entries_legal : (pool : List PoolEntry) (who : Who) (o : Option PoolOp) → ((e : PoolEntry) → entries_of pool who o ≡ e ∷ [] → is_legal_next pool e ≡ true) → is_legal_from pool (entries_of pool who o) ≡ true
 entries_legal pool who None legal = refl
-entries_legal pool who (Some o) legal = and_from _ true (legal (record { by = By.Caller who; op = o }) refl) refl
+entries_legal pool who (Some o) legal = and_from _ true (legal (entry_of who (flag_behind (By.Caller who) pool o) o) refl) refl
 
 -- ---- before any step
 
@@ -30,9 +30,8 @@ pub nothing_stands : NothingStands
 nothing_stands steps brought callers = record {
   accounted = record {
     legal = refl;
-    owed = λ c j. sym (ap (λ (b : Bool). owes b (came_in steps brought [] c j)) (le-ltb j 0 (omega arith)));
+    own = λ c. refl;
     codecs = λ k place. refl;
-    rises = λ c i j m n d e lt is its one two. absurd cc;
   };
   variables = λ c. none_there callers c;
   held = record {
@@ -55,10 +54,10 @@ nothing_stands steps brought callers = record {
 -- One step more, which comes to this, leaves the pool's history with its entry, and these variables.
 module _ (steps : ℕ → List Step) (brought : ℕ → ℕ → MediaStep → Brought) (codecs : Lending) (made more : ℕ → ℕ) (callers : ℕ) (m : Media) (c : ℕ) (st : MediaStand steps brought codecs made callers m) (one : OneMore made more c) (o : Option Came) where
   abbrev longer : List PoolEntry
-  longer = m.pool ++ entries_of (step_by c (made c)) (option_and_then (λ (z : Came). z.does) o)
+  longer = m.pool ++ entries_of m.pool (step_by c (made c)) (option_and_then (λ (z : Came). z.does) o)
 
   stands_after : (us : List (List (Option Medium))) → came_on steps brought longer c (made c) (variables_in steps brought m.pool c (made c)) ≡ o
-      → is_legal_from m.pool (entries_of (step_by c (made c)) (option_and_then (λ (z : Came). z.does) o)) ≡ true
+      → is_legal_from m.pool (entries_of m.pool (step_by c (made c)) (option_and_then (λ (z : Came). z.does) o)) ≡ true
       → variables_of c us ≡ variables_by o (variables_of c m.variables) → ((d : ℕ) → d ≢ c → variables_of d us ≡ variables_of d m.variables)
       → AreHeld longer us → AreLent longer us codecs.holds → length us ≡ length m.variables → MediaStand steps brought codecs more callers (record { variables = us; pool = longer })
   stands_after us comes legal here others held lent long = record {
@@ -76,11 +75,11 @@ step_stands stay legally steps brought codecs made more callers m c x y st lt on
     let who = step_by c (made c) in
     let vs = variables_in steps brought m.pool c (made c) in
     let there : c < length m.variables = (let n = st.there in omega (arith, lt, n)) in
-    let same : media_came m.pool who (brought c (made c) x) x vs ≡ Some y = ap (media_came m.pool who (brought c (made c) x) x) (sym (st.variables c)) ∙ comes in
-    let longer = m.pool ++ entries_of who y.does in
+    let same : media_came (next_numbers m.pool) who (brought c (made c) x) x vs ≡ Some y = ap (media_came (next_numbers m.pool) who (brought c (made c) x) x) (sym (st.variables c)) ∙ comes in
+    let longer = m.pool ++ entries_of m.pool who y.does in
     let came : came_on steps brought longer c (made c) vs ≡ Some y =
-    ap (λ (o : Option Step). option_and_then (λ (z : MediaStep). media_came (before_step c (made c) longer) who (brought c (made c) z) z vs) (option_and_then media_of o)) is
-    ∙ comes_there steps brought codecs.lends made more m.pool c st.accounted one x y vs y.does refl same in
+    ap (λ (o : Option Step). option_and_then (λ (z : MediaStep). media_came (numbers_of (ops_by c (made c) longer)) who (brought c (made c) z) z vs) (option_and_then media_of o)) is
+    ∙ comes_there steps brought codecs.lends made more m.pool c st.accounted one x y vs same in
     record {
       stands = stands_after steps brought codecs made more callers m c st one (Some y) (slice_set m.variables c y.variables) came
           (entries_legal m.pool who y.does (λ e made_it. legally m.pool who m.variables (brought c (made c) x) x y e st.accounted.legal st.held comes made_it))
@@ -97,41 +96,40 @@ step_stands stay legally steps brought codecs made more callers m c x y st lt on
     }
 
 -- what a step that comes to nothing comes to
-came_none : (before : List PoolEntry) (who : Who) (brings : MediaStep → Brought) (o : Option MediaStep) (vs : List (Option Medium)) → ((x : MediaStep) → o ≡ Some x → media_came before who (brings x) x vs ≡ None)
-    → option_and_then (λ (x : MediaStep). media_came before who (brings x) x vs) o ≡ None
-came_none before who brings None vs quiet = refl
-came_none before who brings (Some x) vs quiet = quiet x refl
+came_none : (n : Numbers) (who : Who) (brings : MediaStep → Brought) (o : Option MediaStep) (vs : List (Option Medium)) → ((x : MediaStep) → o ≡ Some x → media_came n who (brings x) x vs ≡ None)
+    → option_and_then (λ (x : MediaStep). media_came n who (brings x) x vs) o ≡ None
+came_none n who brings None vs quiet = refl
+came_none n who brings (Some x) vs quiet = quiet x refl
 
 pub other_stands : OthersStand
 other_stands steps brought codecs made more callers m c st one quiet =
     let vs = variables_in steps brought m.pool c (made c) in
-    let before = before_step c (made c) (m.pool ++ []) in
+    let n = numbers_of (ops_by c (made c) (m.pool ++ [])) in
     let held : AreHeld (m.pool ++ []) m.variables = rw append-nil st.held in
     let lent : AreLent (m.pool ++ []) m.variables codecs.holds = rw append-nil st.lent in
     rw append-nil at (stands_after steps brought codecs made more callers m c st one None m.variables
-    (came_none before (step_by c (made c)) (brought c (made c)) (option_and_then media_of (slice_get (steps c) (made c))) vs (λ x is. quiet x before vs is)) refl refl (λ d other. refl) held lent refl)
+    (came_none n (step_by c (made c)) (brought c (made c)) (option_and_then media_of (slice_get (steps c) (made c))) vs (λ x is. quiet x n vs is)) refl refl (λ d other. refl) held lent refl)
 
 -- ---- more is brought
 
 -- what a step comes to is the same where the same is brought to it
-came_too : (before : List PoolEntry) (who : Who) (vs : List (Option Medium)) (later brings : MediaStep → Brought) (o : Option MediaStep) → ((x : MediaStep) → later x ≡ brings x)
-    → option_and_then (λ (x : MediaStep). media_came before who (later x) x vs) o ≡ option_and_then (λ (x : MediaStep). media_came before who (brings x) x vs) o
-came_too before who vs later brings None same = refl
-came_too before who vs later brings (Some x) same = ap (λ (b : Brought). media_came before who b x vs) (same x)
+came_too : (n : Numbers) (who : Who) (vs : List (Option Medium)) (later brings : MediaStep → Brought) (o : Option MediaStep) → ((x : MediaStep) → later x ≡ brings x)
+    → option_and_then (λ (x : MediaStep). media_came n who (later x) x vs) o ≡ option_and_then (λ (x : MediaStep). media_came n who (brings x) x vs) o
+came_too n who vs later brings None same = refl
+came_too n who vs later brings (Some x) same = ap (λ (b : Brought). media_came n who b x vs) (same x)
 
 pub later_stand : LaterStand
 later_stand steps brought later codecs made callers m st too =
     let comes : (c j : ℕ) → j < made c → ComesToo steps brought later m.pool m.pool c j =
-    λ c j lt vs. came_too (before_step c j m.pool) (step_by c j) vs (later c j) (brought c j) (option_and_then media_of (slice_get (steps c) j)) (λ x. too c j x lt) in
+    λ c j lt vs. came_too (numbers_of (ops_by c j m.pool)) (step_by c j) vs (later c j) (brought c j) (option_and_then media_of (slice_get (steps c) j)) (λ x. too c j x lt) in
     let same : (c j : ℕ) → j < made c → came_in steps later m.pool c j ≡ came_in steps brought m.pool c j =
     λ c j lt. came_stays steps brought later m.pool m.pool c j (λ i le. comes c i (omega (arith, lt, le))) in
     record {
       stands = record {
         accounted = record {
           legal = st.accounted.legal;
-          owed = λ c j. st.accounted.owed c j ∙ owes_same j (made c) (came_in steps brought m.pool c j) (came_in steps later m.pool c j) (λ lt. sym (same c j lt));
+          own = λ c. st.accounted.own c ∙ of_same (came_in steps brought m.pool c) (came_in steps later m.pool c) (made c) (λ j lt. sym (same c j lt));
           codecs = st.accounted.codecs;
-          rises = st.accounted.rises;
         };
         variables = λ c. st.variables c ∙ sym (variables_stay steps brought later m.pool m.pool c (made c) (λ i lt. comes c i lt));
         held = st.held;

@@ -19,7 +19,7 @@ use Rattle.script_types.specs.declared.steps.MediaStep.{MediaStep}
 use Rattle.script_types.specs.declared.steps.Step.{Step}
 use Rattle.script_types.specs.declared.steps.Step.TheVariants as step
 use Rattle.script_types.specs.declared.script.CallerItem.{CallerItem}
-use Rattle.media_variables.specs.Variables.{Medium, Media, Came, Brought, media_came, variables_of, after_came}
+use Rattle.media_variables.specs.Variables.{Medium, Media, Numbers, Came, Brought, next_numbers, with_last, media_came, variables_of, after_came}
 use Rattle.media_variables.specs.Held.{AreHeld, AreApart, clones_of, ends_behind}
 
 -- the step with this number of the caller with this number
@@ -31,14 +31,6 @@ abbrev pub is_by_step : ℕ → ℕ → By → Bool
 is_by_step c j (by.Caller who) = (who.caller == c) && (who.step == j)
 is_by_step c j (by.Codec k place) = false
 
--- what stands before the first entry of a step, behind what was there; nothing where it has no entry
-abbrev pub before_from : ℕ → ℕ → List PoolEntry → List PoolEntry → List PoolEntry
-before_from c j seen [] = []
-before_from c j seen (e ∷ es) = if is_by_step c j e.by then seen else before_from c j (seen ++ e ∷ []) es
-
-abbrev pub before_step : ℕ → ℕ → List PoolEntry → List PoolEntry
-before_step c j pool = before_from c j [] pool
-
 -- what was done to the pool by causes that pass this test, in order
 abbrev pub ops_where : (By → Bool) → List PoolEntry → List PoolOp
 ops_where test [] = []
@@ -48,6 +40,17 @@ ops_where test (e ∷ es) = if test e.by then e.op ∷ ops_where test es else op
 abbrev pub ops_by : ℕ → ℕ → List PoolEntry → List PoolOp
 ops_by c j pool = ops_where (is_by_step c j) pool
 
+-- the numbers that stand in what was done
+abbrev pub numbers_in : PoolOp → Numbers
+numbers_in (op.Make r f) = record { resource = r; reference = f }
+numbers_in (op.Clone r f) = record { resource = r; reference = f }
+numbers_in (op.End r f last) = record { resource = r; reference = f }
+
+-- the numbers in what a step did; a step that did nothing has none, and these are of no account
+abbrev pub numbers_of : List PoolOp → Numbers
+numbers_of [] = record { resource = 0; reference = 0 }
+numbers_of (o ∷ os) = numbers_in o
+
 -- an entry is that of this codec at this place
 abbrev pub is_by_entry : ℕ → ℕ → By → Bool
 is_by_entry k place (by.Caller who) = false
@@ -55,9 +58,7 @@ is_by_entry k place (by.Codec codec n) = (codec == k) && (n == place)
 
 -- the same, where an end does not say whether its reference was the last of its resource
 abbrev pub without_last : PoolOp → PoolOp
-without_last (op.Make r f) = op.Make r f
-without_last (op.Clone r f) = op.Clone r f
-without_last (op.End r f last) = op.End r f false
+without_last o = with_last false o
 
 -- what the entry of a codec at a place did to the pool
 abbrev pub ops_of_entry : ℕ → ℕ → List PoolEntry → List PoolOp
@@ -89,18 +90,39 @@ abbrev pub variables_by : Option Came → List (Option Medium) → List (Option 
 variables_by None vs = vs
 variables_by (Some y) vs = y.variables
 
--- what a step that was made owes to the pool
-abbrev pub owes : Bool → Option Came → List PoolOp
-owes false y = []
-owes true y = option_to_list (option_and_then (λ z. z.does) y)
+-- what a step does to the pool, if it does something
+abbrev pub done_by : Option Came → List PoolOp
+done_by y = option_to_list (option_and_then (λ z. z.does) y)
+
+-- what was done by a caller's step with this number, where an end does not say whether it was the last
+pub record StepOp : Type 0 where
+  pub step : ℕ
+  pub op : PoolOp
+
+abbrev pub step_op : ℕ → PoolOp → StepOp
+step_op j o = record { step = j; op = without_last o }
+
+-- what the steps of the caller with this number did, in order
+abbrev pub own_by : ℕ → By → PoolOp → List StepOp
+own_by c (by.Caller who) o = if who.caller == c then step_op who.step o ∷ [] else []
+own_by c (by.Codec k place) o = []
+
+abbrev pub own_in : ℕ → List PoolEntry → List StepOp
+own_in c [] = []
+own_in c (e ∷ es) = own_by c e.by e.op ++ own_in c es
+
+-- what the first n steps of a caller call for, in order, by what each comes to
+abbrev pub own_of : (ℕ → Option Came) → ℕ → List StepOp
+own_of came zero = []
+own_of came (suc n) = own_of came n ++ map (step_op n) (done_by (came n))
 
 -- `steps` has the steps of each caller, and `brought` what is given from elsewhere to a caller's step on media
 module _ (steps : ℕ → List Step) (brought : ℕ → ℕ → MediaStep → Brought) where
-  -- What a step on media comes to, after these variables of its caller: numbers of resources and references are those that
-  -- are next where the step's own entry stands.
+  -- What a step on media comes to, after these variables of its caller: numbers of resources and references are those in the
+  -- step's own entry.
   abbrev pub came_on : List PoolEntry → ℕ → ℕ → List (Option Medium) → Option Came
   came_on pool c j vs =
-      option_and_then (λ x. media_came (before_step c j pool) (step_by c j) (brought c j x) x vs) (option_and_then media_of (slice_get (steps c) j))
+      option_and_then (λ x. media_came (numbers_of (ops_by c j pool)) (step_by c j) (brought c j x) x vs) (option_and_then media_of (slice_get (steps c) j))
 
   -- the variables of a caller after so many of its steps
   abbrev pub variables_in : List PoolEntry → ℕ → ℕ → List (Option Medium)
@@ -111,25 +133,23 @@ module _ (steps : ℕ → List Step) (brought : ℕ → ℕ → MediaStep → Br
   abbrev pub came_in : List PoolEntry → ℕ → ℕ → Option Came
   came_in pool c j = came_on pool c j (variables_in pool c j)
 
-  -- A pool can have this history; each of the steps that were made has the one entry that it calls for, or none; each entry of
-  -- a codec has what it calls for, by its place, in order; nothing else is in it; and a caller's entries are in the order of its
-  -- steps. `lends` is what the entries of codecs call for, and `made` says how many steps each caller made.
+  -- A pool can have this history; the entries of each caller are those that the steps which it made call for, in order; each
+  -- entry of a codec has what it calls for, by its place, in order; and nothing else is in it. `lends` is what the entries of
+  -- codecs call for, and `made` says how many steps each caller made.
   pub record MediaAreIn (lends : ℕ → ℕ → List PoolOp) (made : ℕ → ℕ) (pool : List PoolEntry) : Type 0 where
     pub legal : is_legal_pool pool ≡ true
-    pub owed : (c j : ℕ) → ops_by c j pool ≡ owes (nat_lt j (made c)) (came_in pool c j)
+    pub own : (c : ℕ) → own_in c pool ≡ own_of (came_in pool c) (made c)
     pub codecs : (k place : ℕ) → ops_of_entry k place pool ≡ lends k place
-    pub rises : (c i j m n : ℕ) (d e : PoolEntry) → m < n → slice_get pool m ≡ Some d → slice_get pool n ≡ Some e →
-        is_by_step c i d.by ≡ true → is_by_step c j e.by ≡ true → i < j
 
 -- one caller made one step more
 pub record OneMore (made more : ℕ → ℕ) (c : ℕ) : Type 0 where
   pub here : more c ≡ suc (made c)
   pub others : (d : ℕ) → d ≢ c → more d ≡ made d
 
--- The step is none on media, or one that came to nothing, whatever the pool and the variables.
+-- The step is none on media, or one that came to nothing, whatever the numbers and the variables.
 abbrev pub IsQuiet : (ℕ → List Step) → (ℕ → ℕ → MediaStep → Brought) → ℕ → ℕ → Type 0
-IsQuiet steps brought c j = (x : MediaStep) (pool : List PoolEntry) (vs : List (Option Medium)) →
-    option_and_then media_of (slice_get (steps c) j) ≡ Some x → media_came pool (step_by c j) (brought c j x) x vs ≡ None
+IsQuiet steps brought c j = (x : MediaStep) (n : Numbers) (vs : List (Option Medium)) →
+    option_and_then media_of (slice_get (steps c) j) ≡ Some x → media_came n (step_by c j) (brought c j x) x vs ≡ None
 
 -- What codecs call for in the pool's history, by their entries, and the references that each holds.
 pub record Lending : Type 0 where
@@ -169,7 +189,7 @@ pub record StepStands (steps : ℕ → List Step) (brought : ℕ → ℕ → Med
 abbrev pub StepsStand : Type 0
 StepsStand = (steps : ℕ → List Step) (brought : ℕ → ℕ → MediaStep → Brought) (codecs : Lending) (made more : ℕ → ℕ) (callers : ℕ) (m : Media) (c : ℕ) (x : MediaStep) (y : Came) →
     MediaStand steps brought codecs made callers m → c < callers → OneMore made more c → slice_get (steps c) (made c) ≡ Some (step.Media x) →
-    media_came m.pool (step_by c (made c)) (brought c (made c) x) x (variables_of c m.variables) ≡ Some y →
+    media_came (next_numbers m.pool) (step_by c (made c)) (brought c (made c) x) x (variables_of c m.variables) ≡ Some y →
     StepStands steps brought codecs made more callers m c y
 
 abbrev pub OthersStand : Type 0

@@ -13,8 +13,8 @@ use Rattle.script_types.specs.declared.options.Options.{Options}
 use Rattle.script_types.specs.declared.options.Options.TheVariants as options
 use Rattle.wc_video.specs.Frames.{Frame}
 use Rattle.media_variables.specs.declared.medium.Kind.TheVariants as kind
-use Rattle.media_variables.specs.Held.{reference_of, medium_of}
-use Rattle.media_variables.specs.Variables.{Medium, refused, frame_copied, planes_copied, copy_frame, copy_medium, frame_of}
+use Rattle.media_variables.specs.Held.{WholeMedium, reference_of, seen, whole_of}
+use Rattle.media_variables.specs.Variables.{refused, frame_copied, planes_copied, copy_frame, copy_medium, frame_of}
 
 pub size_refused : (bytes old : List ℕ) (plan : Result (List PlaneCopy) DomError) (e : DomError) → size_in plan ≡ Err e → refused e ≡ planes_copied bytes old plan
 size_refused bytes old (Err d) e h = let same : d ≡ e = cc in cc
@@ -43,5 +43,5 @@ frame_copy shape (Some r) (options.Audio o) size = refl
 frame_copy shape (Some r) options.Nothing size = refl
 
 -- copies see no key of a pool
-pub frame_by : (f : Frame) (m : Medium) (o : Options) (size : ℕ) → medium_of (kind.Frame f) ≡ m → copy_frame f o size ≡ copy_medium m o size
-frame_by f m o size e = frame_copy f.shape f.held o size ∙ ap (λ (x : Medium). copy_medium x o size) e
+pub frame_by : (f : Frame) (m : WholeMedium) (o : Options) (size : ℕ) → whole_of (kind.Frame f) ≡ m → copy_frame f o size ≡ copy_medium (seen m) o size
+frame_by f m o size e = frame_copy f.shape f.held o size ∙ ap (λ (x : WholeMedium). copy_medium (seen x) o size) e

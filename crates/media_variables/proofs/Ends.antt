@@ -1,21 +1,14 @@
 -- The flag of the end of a reference, and what one more entry makes of the references that are live.
-use Rattle.std.proofs.Common.{ℕ, zero, suc, ◌+◌, ◌≡◌, ◌==◌, Bool, true, false, cond, not, List, [], ◌∷◌, ◌++◌, Option, Some, None, refl, ap, sym, ◌∙◌, arith, append-nil}
-use Rattle.std.specs.Prelude.{option_map}
+use Rattle.std.proofs.Common.{ℕ, zero, suc, ◌+◌, ◌≡◌, ◌==◌, Bool, true, false, cond, not, List, [], ◌∷◌, ◌++◌, Option, Some, None, refl, ap, sym, ◌∙◌, arith}
 use Rattle.std.proofs.lemmas.Bool.{and_parts}
 use Rattle.std.proofs.lemmas.List.Sums.{fold_push, sum_by_push}
 use Rattle.wc_base.specs.declared.who.By.{By}
-use Rattle.wc_base.specs.declared.who.By.TheVariants as by
-use Rattle.wc_base.specs.declared.who.Who.{Who}
 use Rattle.wc_pool.specs.declared.entry.PoolEntry.{PoolEntry}
 use Rattle.wc_pool.specs.declared.entry.PoolOp.TheVariants as op
 use Rattle.wc_pool.specs.declared.reference.MediaRef.{MediaRef}
 use Rattle.wc_pool.specs.Bag.{resource_after, resource_of, is_live, is_number, mints, references_made, count_below, is_held, is_legal_next}
 use Rattle.wc_pool.specs.Pools.{Adds, ended_by}
-use Rattle.wc_audio.specs.Sound as sound
-use Rattle.wc_video.specs.Frames as frames
-use Rattle.media_variables.specs.Variables.{entries_of}
-use Rattle.media_variables.specs.Held.{reference_of, pair_of, ends_behind}
-use Rattle.media_variables.specs.Given.{closed_op}
+use Rattle.media_variables.specs.Held.{pair_of, ends_behind}
 
 abbrev one_if : Bool → ℕ
 one_if b = cond b 1 0
@@ -42,7 +35,7 @@ held_same cause r f a b n h =
     let made = minted_same cause r f a h ∙ sym (minted_same cause r f b h) in
     ap (λ (c : ℕ). not (c == 0)) (ap (count_below p) made ∙ count_same p q (references_made (h ++ end_of cause r f b ∷ [])) each)
 
-flag_is : (cause : By) (r f : ℕ) (last : Bool) (h : List PoolEntry) → is_legal_next h (end_of cause r f last) ≡ true → last ≡ not (is_held r (h ++ end_of cause r f false ∷ []))
+pub flag_is : (cause : By) (r f : ℕ) (last : Bool) (h : List PoolEntry) → is_legal_next h (end_of cause r f last) ≡ true → last ≡ not (is_held r (h ++ end_of cause r f false ∷ []))
 flag_is cause r f true h legal =
     let next = and_parts (is_live r f h) (not (is_held r (h ++ end_of cause r f true ∷ []))) legal in
     sym next.1 ∙ ap not (held_same cause r f true false r h)
@@ -55,11 +48,3 @@ pub ends : (cause : By) (pool new : List PoolEntry) (r : MediaRef) (last : Bool)
 ends cause pool new r last h =
     let flag = flag_is cause r.resource r.number last pool h.next in
     h.longer ∙ ap (λ (b : Bool). pool ++ end_of cause r.resource r.number b ∷ []) flag
-
-pub closes_audio : (who : Who) (pool new : List PoolEntry) (held : Option MediaRef) (last : Bool) → sound.Closes (Adds pool new) (new ≡ pool) (by.Caller who) held last → new ≡ pool ++ entries_of who (closed_op pool who (option_map reference_of held))
-closes_audio who pool new None last h = h.0 ∙ sym (append-nil pool)
-closes_audio who pool new (Some r) last h = ends (by.Caller who) pool new r last h
-
-pub closes_frame : (who : Who) (pool new : List PoolEntry) (held : Option MediaRef) (last : Bool) → frames.Closes (Adds pool new) (new ≡ pool) (by.Caller who) held last → new ≡ pool ++ entries_of who (closed_op pool who (option_map reference_of held))
-closes_frame who pool new None last h = h.0 ∙ sym (append-nil pool)
-closes_frame who pool new (Some r) last h = ends (by.Caller who) pool new r last h

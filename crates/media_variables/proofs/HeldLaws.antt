@@ -1,7 +1,8 @@
 -- The references that variables hold stay live and apart in each step.
 use Rattle.std.proofs.Common.{ℕ, zero, suc, ◌<◌, ◌≡◌, ◌≢◌, ◌==◌, ◌⊎◌, Bool, true, false, if◌then◌else◌, List, [], ◌∷◌, ◌++◌, length, take, Option, Some, None, Result, Ok, Err, IfOk, OnErr, refl, ap, sym, subst, ◌∙◌, inl, inr, append-nil, eq-eqb, arith}
-use Rattle.std.specs.Prelude.{map, slice_set}
+use Rattle.std.specs.Prelude.{map, slice_set, option_map, IfSome}
 use Rattle.std.proofs.lemmas.Bool.{cases_eq, eqb-true, false_from_ne_true}
+use Rattle.std.proofs.lemmas.List.{length-map}
 use Rattle.wc_base.specs.declared.who.Who.{Who}
 use Rattle.wc_base.specs.declared.who.By.TheVariants as by
 use Rattle.wc_base.specs.declared.error.DomError.TheVariants as dom
@@ -14,6 +15,8 @@ use Rattle.wc_pool.specs.declared.entry.PoolEntry.{PoolEntry}
 use Rattle.wc_pool.specs.declared.entry.PoolOp.{PoolOp}
 use Rattle.wc_pool.specs.declared.entry.PoolOp.TheVariants as op
 use Rattle.wc_pool.specs.Bag.{resource_of, resource_after, references_made, resources_made, is_legal_pool}
+use Rattle.wc_pool.specs.declared.reference.MediaRef.{MediaRef}
+use Rattle.wc_pool.specs.Pools.{Adds, IsLive}
 use Rattle.wc_pool.specs.Laws.{LiveAreNumbered}
 use Rattle.wc_audio.specs.Sound as sound
 use Rattle.wc_video.specs.Frames as frames
@@ -26,11 +29,13 @@ use Rattle.script_types.specs.declared.options.Options.{Options}
 use Rattle.script_types.specs.declared.options.Options.TheVariants as options
 use Rattle.report_text.specs.declared.result.StepResult.{StepResult}
 use Rattle.report_text.specs.declared.result.StepResult.TheVariants as result
-use Rattle.media_variables.specs.Variables.{Reference, Shape, SoundOf, PictureOf, Medium, Came, refused, entries_of, with_medium, detached, medium_at, variables_of, only_answers, makes, audio_came, frame_came, clone_held, transfer_held, close_held, if_there, is_last, chunk_of_variable, chunk_medium, copy_came, copy_chunk, copy_medium, size_of_medium, Taken, Brought, unit_came, taken_came, media_came, IsCome, CameTo}
-use Rattle.media_variables.specs.Held.{held_by, reference_at, IsLiveIn, IsHeldIn, AreHeld, AreLive, StayHeld}
-use Rattle.media_variables.specs.Given.{Comes, Reaches}
+use Rattle.media_variables.specs.Variables.{Reference, Shape, SoundOf, PictureOf, Medium, Media, Came, refused, entries_of, with_medium, detached, medium_at, variables_of, only_answers, makes, audio_came, frame_came, clone_held, transfer_held, close_held, if_there, is_last_of, next_numbers, chunk_of_variable, chunk_medium, copy_came, copy_chunk, copy_medium, size_of_medium, Taken, Brought, unit_came, taken_came, media_came, IsCome, CameTo}
+use Rattle.media_variables.specs.Held.{WholeMedium, AreOf, AreOnce, held_by, reference_at, reference_of, seen, seen_in, whole_held, IsLiveIn, AreHeld, StayHeld, media_of}
+use Rattle.media_variables.specs.CameLaws.{taken_by_numbers, came_by_numbers}
+use Rattle.media_variables.specs.Given.{Acts}
 use Rattle.media_variables.proofs.Ends.{resource_more}
-use Rattle.media_variables.proofs.Places.{medium_here, medium_else, variables_here, variables_else, variables_back, set_again}
+use Rattle.media_variables.proofs.PoolLaws.{Reaches, act_reaches}
+use Rattle.media_variables.proofs.Places.{medium_here, medium_else, seen_at, variables_here, variables_else, variables_back, set_again, callers_set}
 
 -- one variable of one caller changes
 pub record Puts (old new : List (List (Option Medium))) (k j : ℕ) (held : Option Reference) : Type 0 where
@@ -143,7 +148,7 @@ minted_held numbered pool e r all legal m h =
 
 -- what a step comes to keeps the references live and apart
 abbrev Keeps : List PoolEntry → Who → List (List (Option Medium)) → Came → Type 0
-Keeps pool who all c = AreHeld (pool ++ entries_of who c.does) (slice_set all who.caller c.variables)
+Keeps pool who all c = AreHeld (pool ++ entries_of pool who c.does) (slice_set all who.caller c.variables)
 
 record Has (pool : List PoolEntry) (who : Who) (all : List (List (Option Medium))) : Type 0 where
   numbered : LiveAreNumbered
@@ -167,23 +172,23 @@ given_new pool who all o shape r h is m =
     let lives = subst (λ (f : ℕ). resource_of f new ≡ Some r.resource) (sym is) (minted_live pool e r.resource (references_made pool) m) in
     taken new all _ who.caller who.step r p held lives (record { none = λ l i s there same. free.none l i s there (same ∙ is) })
 
-keeps_made : (pool : List PoolEntry) (who : Who) (all : List (List (Option Medium))) (shape : Shape) (bytes : List ℕ) → Has pool who all → Keeps pool who all (makes pool who.step shape bytes (variables_of who.caller all))
+keeps_made : (pool : List PoolEntry) (who : Who) (all : List (List (Option Medium))) (shape : Shape) (bytes : List ℕ) → Has pool who all → Keeps pool who all (makes (next_numbers pool) who.step shape bytes (variables_of who.caller all))
 keeps_made pool who all shape bytes h =
     given_new pool who all (op.Make (resources_made pool) (references_made pool)) shape (record { resource = resources_made pool; number = references_made pool; bytes = bytes }) h refl (λ g held. refl)
 
-keeps_if : (b : Bool) (pool : List PoolEntry) (who : Who) (all : List (List (Option Medium))) (shape : Shape) (bytes : List ℕ) → Has pool who all → Keeps pool who all (if b then only_answers (refused dom.TypeErr) (variables_of who.caller all) else makes pool who.step shape bytes (variables_of who.caller all))
+keeps_if : (b : Bool) (pool : List PoolEntry) (who : Who) (all : List (List (Option Medium))) (shape : Shape) (bytes : List ℕ) → Has pool who all → Keeps pool who all (if b then only_answers (refused dom.TypeErr) (variables_of who.caller all) else makes (next_numbers pool) who.step shape bytes (variables_of who.caller all))
 keeps_if true pool who all shape bytes h = keeps_all pool who all (refused dom.TypeErr) h
 keeps_if false pool who all shape bytes h = keeps_made pool who all shape bytes h
 
-keeps_audio : (pool : List PoolEntry) (who : Who) (all : List (List (Option Medium))) (init : Option SoundInit) → Has pool who all → Keeps pool who all (audio_came pool who.step init (variables_of who.caller all))
+keeps_audio : (pool : List PoolEntry) (who : Who) (all : List (List (Option Medium))) (init : Option SoundInit) → Has pool who all → Keeps pool who all (audio_came (next_numbers pool) who.step init (variables_of who.caller all))
 keeps_audio pool who all None h = keeps_all pool who all (refused dom.TypeErr) h
 keeps_audio pool who all (Some i) h = keeps_if (sound.is_invalid i.shape (length i.content)) pool who all (SoundOf i.shape) (take (sound.needed i.shape) i.content) h
 
-keeps_frame : (pool : List PoolEntry) (who : Who) (all : List (List (Option Medium))) (init : Option PictureInit) → Has pool who all → Keeps pool who all (frame_came pool who.step init (variables_of who.caller all))
+keeps_frame : (pool : List PoolEntry) (who : Who) (all : List (List (Option Medium))) (init : Option PictureInit) → Has pool who all → Keeps pool who all (frame_came (next_numbers pool) who.step init (variables_of who.caller all))
 keeps_frame pool who all None h = keeps_all pool who all (refused dom.TypeErr) h
 keeps_frame pool who all (Some i) h = keeps_if (frames.is_invalid i.shape (length i.content)) pool who all (PictureOf i.shape) (take (picture_size i.shape) i.content) h
 
-keeps_clone : (pool : List PoolEntry) (who : Who) (all : List (List (Option Medium))) (shape : Shape) (held : Option Reference) → Has pool who all → Keeps pool who all (clone_held pool who.step shape held (variables_of who.caller all))
+keeps_clone : (pool : List PoolEntry) (who : Who) (all : List (List (Option Medium))) (shape : Shape) (held : Option Reference) → Has pool who all → Keeps pool who all (clone_held (next_numbers pool) who.step shape held (variables_of who.caller all))
 keeps_clone pool who all shape None h = keeps_all pool who all (refused dom.InvalidState) h
 keeps_clone pool who all shape (Some r) h =
     given_new pool who all (op.Clone r.resource (references_made pool)) shape (record r { number = references_made pool }) h refl (λ g held. refl)
@@ -212,7 +217,7 @@ keeps_transfer pool who all of m (Some r) h is there =
     length-set_all zero vs (x ∷ xs) = refl
     length-set_all (suc k) vs (x ∷ xs) = ap suc (length-set_all k vs xs)
 
-keeps_close : (pool : List PoolEntry) (who : Who) (all : List (List (Option Medium))) (of : ℕ) (m : Medium) (held : Option Reference) → Has pool who all → reference_at all who.caller of ≡ held → Keeps pool who all (close_held pool who of m held (variables_of who.caller all))
+keeps_close : (pool : List PoolEntry) (who : Who) (all : List (List (Option Medium))) (of : ℕ) (m : Medium) (held : Option Reference) → Has pool who all → reference_at all who.caller of ≡ held → Keeps pool who all (close_held of m held (variables_of who.caller all))
 keeps_close pool who all of m None h there = keeps_all pool who all (result.Local None) h
 keeps_close pool who all of m (Some r) h there =
     let k = who.caller in
@@ -220,7 +225,7 @@ keeps_close pool who all of m (Some r) h there =
     let p = puts all k of (detached m) h.there in
     let rest = let_go pool all less k of p h.held in
     let free = released pool all less k of r p h.held there in
-    let e = mint who (op.End r.resource r.number (is_last who r pool)) in
+    let e = mint who (op.End r.resource r.number (is_last_of (by.Caller who) r.resource r.number pool)) in
     carried pool (pool ++ e ∷ []) less (λ l i s at lives.
     resource_more s.number pool e ∙ ap (λ (b : Bool). if b then None else resource_of s.number pool) (other_test r.number s.number (λ same. free.none l i s at (sym same))) ∙ lives) rest
 
@@ -247,16 +252,16 @@ keeps_chunk pool who all answer chunk h =
     let p = puts all who.caller who.step (chunk_medium chunk) h.there in
     subst (λ (x : List PoolEntry). AreHeld x new) (sym (append-nil pool)) (let_go pool all new who.caller who.step p h.held)
 
-keeps_unit : (pool : List PoolEntry) (who : Who) (all : List (List (Option Medium))) (answer : StepResult) (u : output.Unit) → Has pool who all → Keeps pool who all (unit_came pool who.step answer u (variables_of who.caller all))
+keeps_unit : (pool : List PoolEntry) (who : Who) (all : List (List (Option Medium))) (answer : StepResult) (u : output.Unit) → Has pool who all → Keeps pool who all (unit_came (next_numbers pool) who.step answer u (variables_of who.caller all))
 keeps_unit pool who all answer (unit.Sound s) h = keeps_made pool who all (SoundOf s.shape) s.bytes h
 keeps_unit pool who all answer (unit.Image p) h = keeps_made pool who all (PictureOf p.shape) p.bytes h
 keeps_unit pool who all answer (unit.Coded chunk config) h = keeps_chunk pool who all answer chunk h
 
-keeps_taken : (pool : List PoolEntry) (who : Who) (all : List (List (Option Medium))) (t : Option Taken) → Has pool who all → KeepsIf pool who all (taken_came pool who.step t (variables_of who.caller all))
+keeps_taken : (pool : List PoolEntry) (who : Who) (all : List (List (Option Medium))) (t : Option Taken) → Has pool who all → KeepsIf pool who all (taken_came (next_numbers pool) who.step t (variables_of who.caller all))
 keeps_taken pool who all None h = tt
 keeps_taken pool who all (Some t) h = keeps_unit pool who all t.answer t.unit h
 
-keeps_step : (pool : List PoolEntry) (who : Who) (all : List (List (Option Medium))) (b : Brought) (step : MediaStep) → Has pool who all → KeepsIf pool who all (media_came pool who b step (variables_of who.caller all))
+keeps_step : (pool : List PoolEntry) (who : Who) (all : List (List (Option Medium))) (b : Brought) (step : MediaStep) → Has pool who all → KeepsIf pool who all (media_came (next_numbers pool) who b step (variables_of who.caller all))
 keeps_step pool who all b (media.Audio bind init) h = keeps_audio pool who all init h
 keeps_step pool who all b (media.Frame bind init) h = keeps_frame pool who all init h
 keeps_step pool who all b (media.Encode on content) h = tt
@@ -288,19 +293,30 @@ came_held pool new who all vs after came (Ok answer) h keeps is ok same back =
     reached_held pool new who all after (came (variables_of who.caller all)) answer h keeps reached
 came_held pool new who all vs after came (Err e) h keeps is ok same back = unchanged pool new who all after h same (back ∙ sym is)
 
-pub step_held : LiveAreNumbered → (pool new : List PoolEntry) (who : Who) (all : List (List (Option Medium))) (vs after : List (Option Medium)) (b : Brought) (step : MediaStep) (r : Result (Option StepResult) NoMemory) → is_legal_pool pool ≡ true → who.caller < length all → AreHeld pool all → variables_of who.caller all ≡ vs → IfOk r (Reaches who pool new vs after (media_came pool who b step vs)) → OnErr r (new ≡ pool) → OnErr r (after ≡ vs) → AreHeld new (slice_set all who.caller after)
+-- a step was made, or memory was wanted
+abbrev pub HasActed : Who → List PoolEntry → List PoolEntry → Brought → MediaStep → List (Option Medium) → List (Option Medium) → Option StepResult → Type 0
+HasActed who pool new b step vs after answer = Acts (Adds pool new) (new ≡ pool) who (λ n. media_came n who b step vs) vs after answer
+
+acted : (pool new : List PoolEntry) (who : Who) (vs after : List (Option Medium)) (b : Brought) (step : MediaStep) (r : Result (Option StepResult) NoMemory) → IfOk r (HasActed who pool new b step vs after) → IfOk r (Reaches who pool new vs after (media_came (next_numbers pool) who b step vs))
+acted pool new who vs after b step (Ok answer) ok = act_reaches who pool new vs after _ answer (came_by_numbers who b step vs) ok
+acted pool new who vs after b step (Err e) ok = tt
+
+pub step_held : LiveAreNumbered → (pool new : List PoolEntry) (who : Who) (all : List (List (Option Medium))) (vs after : List (Option Medium)) (b : Brought) (step : MediaStep) (r : Result (Option StepResult) NoMemory) → is_legal_pool pool ≡ true → who.caller < length all → AreHeld pool all → variables_of who.caller all ≡ vs → IfOk r (HasActed who pool new b step vs after) → OnErr r (new ≡ pool) → OnErr r (after ≡ vs) → AreHeld new (slice_set all who.caller after)
 step_held numbered pool new who all vs after b step r legal there h is ok same back =
     let has : Has pool who all = record { numbered = numbered; legal = legal; there = there; held = h } in
-    came_held pool new who all vs after (λ x. media_came pool who b step x) r h (keeps_step pool who all b step has) is ok same back
+    came_held pool new who all vs after (λ x. media_came (next_numbers pool) who b step x) r h (keeps_step pool who all b step has) is (acted pool new who vs after b step r ok) same back
 
 -- an output was taken, or memory was wanted
 abbrev pub HasTaken : Who → List PoolEntry → List PoolEntry → Taken → List (Option Medium) → List (Option Medium) → StepResult → Type 0
-HasTaken who pool new t vs after r = Comes who pool new after (unit_came pool who.step t.answer t.unit vs) r
+HasTaken who pool new t vs after r = Acts (Adds pool new) (new ≡ pool) who (λ n. taken_came n who.step (Some t) vs) vs after (Some r)
+
+took : (pool new : List PoolEntry) (who : Who) (vs after : List (Option Medium)) (t : Taken) (r : StepResult) → HasTaken who pool new t vs after r → Reaches who pool new vs after (taken_came (next_numbers pool) who.step (Some t) vs) (Some r)
+took pool new who vs after t r h = act_reaches who pool new vs after _ (Some r) (taken_by_numbers who.step (Some t) vs) h
 
 pub take_held : LiveAreNumbered → (pool new : List PoolEntry) (who : Who) (all : List (List (Option Medium))) (vs after : List (Option Medium)) (t : Taken) (r : Result StepResult NoMemory) → is_legal_pool pool ≡ true → who.caller < length all → AreHeld pool all → variables_of who.caller all ≡ vs → IfOk r (HasTaken who pool new t vs after) → OnErr r (new ≡ pool) → OnErr r (after ≡ vs) → AreHeld new (slice_set all who.caller after)
 take_held numbered pool new who all vs after t (Ok answer) legal there h is ok same back =
     let has : Has pool who all = record { numbered = numbered; legal = legal; there = there; held = h } in
-    came_held pool new who all vs after (λ x. taken_came pool who.step (Some t) x) (Ok (Some answer)) h (keeps_taken pool who all (Some t) has) is (ap Some ok.answered, ok.history, ok.variables) tt tt
+    came_held pool new who all vs after (λ x. taken_came (next_numbers pool) who.step (Some t) x) (Ok (Some answer)) h (keeps_taken pool who all (Some t) has) is (took pool new who vs after t answer ok) tt tt
 take_held numbered pool new who all vs after t (Err e) legal there h is ok same back = unchanged pool new who all after h same (back ∙ sym is)
 
 reached_came : (pool new : List PoolEntry) (who : Who) (all : List (List (Option Medium))) (after : List (Option Medium)) (came : Option Came) (answer : Option StepResult) → Reaches who pool new (variables_of who.caller all) after came answer → IsCome (record { variables = all; pool = pool }) (record { variables = slice_set all who.caller after; pool = new }) who came answer
@@ -308,20 +324,20 @@ reached_came pool new who all after None answer r =
     let back = ap (slice_set all who.caller) r.2 ∙ variables_back who.caller all in
     (r.0, ap (λ (x : List PoolEntry). record { variables = slice_set all who.caller after; pool = x }) r.1 ∙ ap (λ (x : List (List (Option Medium))). record { variables = x; pool = pool }) back)
 reached_came pool new who all after (Some c) answer r =
-    (r.0, ap (λ (x : List PoolEntry). record { variables = slice_set all who.caller after; pool = x }) r.1 ∙ ap (λ (x : List (Option Medium)). record { variables = slice_set all who.caller x; pool = pool ++ entries_of who c.does }) r.2)
+    (r.0, ap (λ (x : List PoolEntry). record { variables = slice_set all who.caller after; pool = x }) r.1 ∙ ap (λ (x : List (Option Medium)). record { variables = slice_set all who.caller x; pool = pool ++ entries_of pool who c.does }) r.2)
 
 came_came : (pool new : List PoolEntry) (who : Who) (all : List (List (Option Medium))) (vs after : List (Option Medium)) (came : List (Option Medium) → Option Came) (answer : Option StepResult) → variables_of who.caller all ≡ vs → Reaches who pool new vs after (came vs) answer → IsCome (record { variables = all; pool = pool }) (record { variables = slice_set all who.caller after; pool = new }) who (came (variables_of who.caller all)) answer
 came_came pool new who all vs after came answer is ok =
     let reached = subst (λ (x : List (Option Medium)). Reaches who pool new x after (came x) answer) (sym is) ok in
     reached_came pool new who all after (came (variables_of who.caller all)) answer reached
 
-pub step_came : (pool new : List PoolEntry) (who : Who) (all : List (List (Option Medium))) (vs after : List (Option Medium)) (b : Brought) (step : MediaStep) (r : Result (Option StepResult) NoMemory) → variables_of who.caller all ≡ vs → IfOk r (Reaches who pool new vs after (media_came pool who b step vs)) → IfOk r (CameTo (record { variables = all; pool = pool }) (record { variables = slice_set all who.caller after; pool = new }) who b step)
-step_came pool new who all vs after b step (Ok answer) is ok = came_came pool new who all vs after (λ x. media_came pool who b step x) answer is ok
+pub step_came : (pool new : List PoolEntry) (who : Who) (all : List (List (Option Medium))) (vs after : List (Option Medium)) (b : Brought) (step : MediaStep) (r : Result (Option StepResult) NoMemory) → variables_of who.caller all ≡ vs → IfOk r (HasActed who pool new b step vs after) → IfOk r (CameTo (record { variables = all; pool = pool }) (record { variables = slice_set all who.caller after; pool = new }) who b step)
+step_came pool new who all vs after b step (Ok answer) is ok = came_came pool new who all vs after (λ x. media_came (next_numbers pool) who b step x) answer is (acted pool new who vs after b step (Ok answer) ok)
 step_came pool new who all vs after b step (Err e) is ok = tt
 
 pub take_came : (pool new : List PoolEntry) (who : Who) (all : List (List (Option Medium))) (vs after : List (Option Medium)) (t : Taken) (r : Result StepResult NoMemory) → variables_of who.caller all ≡ vs → IfOk r (HasTaken who pool new t vs after)
-    → IfOk r (λ a. IsCome (record { variables = all; pool = pool }) (record { variables = slice_set all who.caller after; pool = new }) who (taken_came pool who.step (Some t) (variables_of who.caller all)) (Some a))
-take_came pool new who all vs after t (Ok answer) is ok = came_came pool new who all vs after (λ x. taken_came pool who.step (Some t) x) (Some answer) is (ap Some ok.answered, ok.history, ok.variables)
+    → IfOk r (λ a. IsCome (record { variables = all; pool = pool }) (record { variables = slice_set all who.caller after; pool = new }) who (taken_came (next_numbers pool) who.step (Some t) (variables_of who.caller all)) (Some a))
+take_came pool new who all vs after t (Ok answer) is ok = came_came pool new who all vs after (λ x. taken_came (next_numbers pool) who.step (Some t) x) (Some answer) is (took pool new who vs after t answer ok)
 take_came pool new who all vs after t (Err e) is ok = tt
 
 -- the same of what a step on media came to
@@ -334,6 +350,13 @@ no_reference [] k j = refl
 no_reference (c ∷ cs) zero j = refl
 no_reference (c ∷ cs) (suc k) j = no_reference cs k j
 
+pub none_seen : (callers : List CallerItem) (all : List (List (Option WholeMedium))) → all ≡ map (λ c. []) callers → map seen_in all ≡ map (λ c. []) callers
+none_seen callers all is = ap (map seen_in) is ∙ each callers
+  where
+    each : (callers : List CallerItem) → map seen_in (map (λ c. []) callers) ≡ map (λ c. []) callers
+    each [] = refl
+    each (c ∷ cs) = ap (λ (l : List (List (Option Medium))). [] ∷ l) (each cs)
+
 -- no variable holds anything at first
 pub none_held : (pool : List PoolEntry) (all : List (List (Option Medium))) (callers : List CallerItem) → all ≡ map (λ c. []) callers → AreHeld pool all
 none_held pool all callers is =
@@ -345,11 +368,38 @@ none_held pool all callers is =
     }
 
 -- each reference of one caller is live
-pub caller_live : (pool : List PoolEntry) (all : List (List (Option Medium))) (k : ℕ) (vs : List (Option Medium)) → variables_of k all ≡ vs → AreHeld pool all → AreLive pool vs
-caller_live pool all k vs is h =
-    let own : AreLive pool (variables_of k all) = record { live = λ j. if_held pool (reference_at all k j) (λ r e. h.live k j r e) } in
-    subst (λ (x : List (Option Medium)). AreLive pool x) is own
+pub caller_live : (pool : List PoolEntry) (all : List (List (Option Medium))) (k : ℕ) (vs : List (Option WholeMedium)) → variables_of k all ≡ seen_in vs → AreHeld pool all → AreOf (IsLive pool) vs
+caller_live pool all k vs is h = record {
+  each = λ j. live_held pool (whole_held (medium_at vs j))
+      (λ r holds. h.live k j (reference_of r) (ap (λ (x : List (Option Medium)). held_by (medium_at x j)) is ∙ (ap held_by (seen_at vs j) ∙ whole_held_as (medium_at vs j) r holds)));
+}
   where
-    if_held : (pool : List PoolEntry) (held : Option Reference) → ((r : Reference) → held ≡ Some r → IsLiveIn pool r) → IsHeldIn pool held
-    if_held pool None h = tt
-    if_held pool (Some r) h = h r refl
+    live_held : (pool : List PoolEntry) (held : Option MediaRef) → ((r : MediaRef) → held ≡ Some r → IsLive pool r) → IfSome held (IsLive pool)
+    live_held pool None h = tt
+    live_held pool (Some r) h = h r refl
+
+    whole_held_as : (v : Option WholeMedium) (r : MediaRef) → whole_held v ≡ Some r → held_by (option_map seen v) ≡ Some (reference_of r)
+    whole_held_as None r e = absurd cc
+    whole_held_as (Some m) r e = ap (option_map reference_of) e
+
+-- and no two of them are one
+pub caller_once : (pool : List PoolEntry) (all : List (List (Option Medium))) (k : ℕ) (vs : List (Option Medium)) → variables_of k all ≡ vs → AreHeld pool all → AreOnce vs
+caller_once pool all k vs is h =
+    let own : AreOnce (variables_of k all) = record { once = λ i j r q here there same. (h.apart k i k j r q here there same).1 } in
+    subst AreOnce is own
+
+-- what is seen as it was, put back
+pub put_back : (k : ℕ) (all : List (List (Option WholeMedium))) (vs after : List (Option WholeMedium)) → variables_of k (map seen_in all) ≡ seen_in vs → seen_in after ≡ seen_in vs → map seen_in (slice_set all k after) ≡ map seen_in all
+put_back k all vs after is same = callers_set k after all ∙ (ap (slice_set (map seen_in all) k) (same ∙ sym is) ∙ variables_back k (map seen_in all))
+
+-- where memory was wanted all variables are seen as they were
+pub seen_back : {X : Type 0} (r : Result X NoMemory) (k : ℕ) (all : List (List (Option WholeMedium))) (vs after : List (Option WholeMedium)) → variables_of k (map seen_in all) ≡ seen_in vs → OnErr r (seen_in after ≡ seen_in vs) → OnErr r (map seen_in (slice_set all k after) ≡ map seen_in all)
+seen_back (Ok x) k all vs after is same = tt
+seen_back (Err e) k all vs after is same = put_back k all vs after is same
+
+pub within : (k : ℕ) (all : List (List (Option WholeMedium))) → k < length all → k < length (map seen_in all)
+within k all lt = subst (λ (n : ℕ). k < n) (sym (length-map all seen_in)) lt
+
+-- a caller that is there, as all media are seen
+pub caller_there : (m : Media) (pool : List PoolEntry) (all : List (List (Option WholeMedium))) (k : ℕ) → media_of all pool ≡ m → k < length m.variables → k < length all
+caller_there m pool all k is lt = subst (λ (n : ℕ). k < n) (length-map all seen_in) (subst (λ (x : Media). k < length x.variables) (sym is) lt)

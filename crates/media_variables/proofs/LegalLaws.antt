@@ -23,7 +23,7 @@ use Rattle.script_types.specs.declared.steps.MediaStep.{MediaStep}
 use Rattle.script_types.specs.declared.steps.MediaStep.TheVariants as media
 use Rattle.script_types.specs.declared.options.Options.{Options}
 use Rattle.script_types.specs.declared.options.Options.TheVariants as options
-use Rattle.media_variables.specs.Variables.{Reference, Shape, SoundOf, PictureOf, Medium, Came, refused, entries_of, medium_at, variables_of, only_answers, makes, audio_came, frame_came, clone_held, transfer_held, close_held, if_there, copy_came, Taken, Brought, unit_came, taken_came, media_came}
+use Rattle.media_variables.specs.Variables.{Reference, Shape, SoundOf, PictureOf, Medium, Came, next_numbers, refused, flag_behind, entry_of, entries_of, medium_at, variables_of, only_answers, makes, audio_came, frame_came, clone_held, transfer_held, close_held, if_there, copy_came, Taken, Brought, unit_came, taken_came, media_came}
 use Rattle.media_variables.specs.Held.{held_by, IsLiveIn, AreHeld, DoLegally}
 use Rattle.media_variables.proofs.Ends.{held_same}
 
@@ -52,24 +52,24 @@ live_held numbered pool r legal lives =
 -- what a step does to the pool, if it does something, is legal there
 abbrev Legally : List PoolEntry → Who → Option PoolOp → Type 0
 Legally pool who None = Unit {0}
-Legally pool who (Some o) = is_legal_next pool (record { by = by.Caller who; op = o }) ≡ true
+Legally pool who (Some o) = is_legal_next pool (entry_of who (flag_behind (by.Caller who) pool o) o) ≡ true
 
 made_legally : (pool : List PoolEntry) (who : Who) → Legally pool who (Some (op.Make (resources_made pool) (references_made pool)))
 made_legally pool who = ap (λ (b : Bool). b && (references_made pool == references_made pool)) (eq-eqb (resources_made pool) (resources_made pool) refl) ∙ eq-eqb (references_made pool) (references_made pool) refl
 
-init_legally : (pool : List PoolEntry) (who : Who) (shape : Shape) (bytes : List ℕ) (vs : List (Option Medium)) (b : Bool) → Legally pool who (if b then only_answers (refused dom.TypeErr) vs else makes pool who.step shape bytes vs).does
+init_legally : (pool : List PoolEntry) (who : Who) (shape : Shape) (bytes : List ℕ) (vs : List (Option Medium)) (b : Bool) → Legally pool who (if b then only_answers (refused dom.TypeErr) vs else makes (next_numbers pool) who.step shape bytes vs).does
 init_legally pool who shape bytes vs true = tt
 init_legally pool who shape bytes vs false = made_legally pool who
 
-audio_legally : (pool : List PoolEntry) (who : Who) (init : Option SoundInit) (vs : List (Option Medium)) → Legally pool who (audio_came pool who.step init vs).does
+audio_legally : (pool : List PoolEntry) (who : Who) (init : Option SoundInit) (vs : List (Option Medium)) → Legally pool who (audio_came (next_numbers pool) who.step init vs).does
 audio_legally pool who None vs = tt
 audio_legally pool who (Some i) vs = init_legally pool who (SoundOf i.shape) (take (sound.needed i.shape) i.content) vs (sound.is_invalid i.shape (length i.content))
 
-frame_legally : (pool : List PoolEntry) (who : Who) (init : Option PictureInit) (vs : List (Option Medium)) → Legally pool who (frame_came pool who.step init vs).does
+frame_legally : (pool : List PoolEntry) (who : Who) (init : Option PictureInit) (vs : List (Option Medium)) → Legally pool who (frame_came (next_numbers pool) who.step init vs).does
 frame_legally pool who None vs = tt
 frame_legally pool who (Some i) vs = init_legally pool who (PictureOf i.shape) (take (picture_size i.shape) i.content) vs (frames.is_invalid i.shape (length i.content))
 
-clone_legally : LiveAreNumbered → (pool : List PoolEntry) (who : Who) (shape : Shape) (held : Option Reference) (vs : List (Option Medium)) → is_legal_pool pool ≡ true → ((r : Reference) → held ≡ Some r → IsLiveIn pool r) → Legally pool who (clone_held pool who.step shape held vs).does
+clone_legally : LiveAreNumbered → (pool : List PoolEntry) (who : Who) (shape : Shape) (held : Option Reference) (vs : List (Option Medium)) → is_legal_pool pool ≡ true → ((r : Reference) → held ≡ Some r → IsLiveIn pool r) → Legally pool who (clone_held (next_numbers pool) who.step shape held vs).does
 clone_legally numbered pool who shape None vs legal lives = tt
 clone_legally numbered pool who shape (Some r) vs legal lives =
     ap (λ (b : Bool). b && (references_made pool == references_made pool)) (live_held numbered pool r legal (lives r refl)) ∙ eq-eqb (references_made pool) (references_made pool) refl
@@ -84,7 +84,7 @@ flag_legally : (pool : List PoolEntry) (who : Who) (r : Reference) (b : Bool) �
 flag_legally pool who r true is = is
 flag_legally pool who r false is = ap not (held_same (by.Caller who) r.resource r.number true false r.resource pool ∙ is)
 
-close_legally : (pool : List PoolEntry) (who : Who) (of : ℕ) (m : Medium) (held : Option Reference) (vs : List (Option Medium)) → ((r : Reference) → held ≡ Some r → IsLiveIn pool r) → Legally pool who (close_held pool who of m held vs).does
+close_legally : (pool : List PoolEntry) (who : Who) (of : ℕ) (m : Medium) (held : Option Reference) (vs : List (Option Medium)) → ((r : Reference) → held ≡ Some r → IsLiveIn pool r) → Legally pool who (close_held of m held vs).does
 close_legally pool who of m None vs lives = tt
 close_legally pool who of m (Some r) vs lives =
     let still = is_held r.resource (pool ++ record { by = by.Caller who; op = op.End r.resource r.number false } ∷ []) in
@@ -108,16 +108,16 @@ abbrev LegallyIf : List PoolEntry → Who → Option Came → Type 0
 LegallyIf pool who None = Unit {0}
 LegallyIf pool who (Some y) = Legally pool who y.does
 
-unit_legally : (pool : List PoolEntry) (who : Who) (answer : StepResult) (u : output.Unit) (vs : List (Option Medium)) → Legally pool who (unit_came pool who.step answer u vs).does
+unit_legally : (pool : List PoolEntry) (who : Who) (answer : StepResult) (u : output.Unit) (vs : List (Option Medium)) → Legally pool who (unit_came (next_numbers pool) who.step answer u vs).does
 unit_legally pool who answer (unit.Sound s) vs = made_legally pool who
 unit_legally pool who answer (unit.Image p) vs = made_legally pool who
 unit_legally pool who answer (unit.Coded chunk config) vs = tt
 
-taken_legally : (pool : List PoolEntry) (who : Who) (t : Option Taken) (vs : List (Option Medium)) → LegallyIf pool who (taken_came pool who.step t vs)
+taken_legally : (pool : List PoolEntry) (who : Who) (t : Option Taken) (vs : List (Option Medium)) → LegallyIf pool who (taken_came (next_numbers pool) who.step t vs)
 taken_legally pool who None vs = tt
 taken_legally pool who (Some t) vs = unit_legally pool who t.answer t.unit vs
 
-step_legally : LiveAreNumbered → (pool : List PoolEntry) (who : Who) (all : List (List (Option Medium))) (b : Brought) (x : MediaStep) → is_legal_pool pool ≡ true → AreHeld pool all → LegallyIf pool who (media_came pool who b x (variables_of who.caller all))
+step_legally : LiveAreNumbered → (pool : List PoolEntry) (who : Who) (all : List (List (Option Medium))) (b : Brought) (x : MediaStep) → is_legal_pool pool ≡ true → AreHeld pool all → LegallyIf pool who (media_came (next_numbers pool) who b x (variables_of who.caller all))
 step_legally numbered pool who all b (media.Audio bind init) legal h = audio_legally pool who init (variables_of who.caller all)
 step_legally numbered pool who all b (media.Frame bind init) legal h = frame_legally pool who init (variables_of who.caller all)
 step_legally numbered pool who all b (media.Encode on content) legal h = tt
@@ -132,10 +132,10 @@ step_legally numbered pool who all b (media.Copy of o size) legal h = copy_legal
 step_legally numbered pool who all b (media.Size of o) legal h =
     there_legally pool who (medium_at (variables_of who.caller all) of.step) (variables_of who.caller all) _ (λ m e. tt)
 
-entry_legally : (pool : List PoolEntry) (who : Who) (o : Option PoolOp) (e : PoolEntry) → Legally pool who o → entries_of who o ≡ e ∷ [] → is_legal_next pool e ≡ true
+entry_legally : (pool : List PoolEntry) (who : Who) (o : Option PoolOp) (e : PoolEntry) → Legally pool who o → entries_of pool who o ≡ e ∷ [] → is_legal_next pool e ≡ true
 entry_legally pool who None e legally is = absurd cc
 entry_legally pool who (Some o) e legally is =
-    let same : record { by = by.Caller who; op = o } ≡ e = cc in
+    let same : entry_of who (flag_behind (by.Caller who) pool o) o ≡ e = cc in
     subst (λ (x : PoolEntry). is_legal_next pool x ≡ true) same legally
 
 pub does_legally : LiveAreNumbered → DoLegally

@@ -1,19 +1,22 @@
 -- References that codecs are lent, and let go: what stands of those that variables hold.
 use Rattle.std.proofs.Common.{ℕ, zero, suc, ◌≡◌, ◌≢◌, ◌≤◌, ◌==◌, Bool, true, false, if◌then◌else◌, List, [], ◌∷◌, ◌++◌, length, Option, Some, None, Result, Ok, Err, IfOk, OnErr, refl, ap, sym, subst, ◌∙◌, append_assoc, append-nil, arith}
-use Rattle.std.specs.Prelude.{slice_get, slice_set}
-use Rattle.std.proofs.lemmas.Bool.{eqb-true, false_from_ne_true}
+use Rattle.std.specs.Prelude.{slice_get, slice_set, IfSome}
+use Rattle.std.proofs.lemmas.Bool.{and_parts, eqb-true, false_from_ne_true}
 use Rattle.wc_base.specs.declared.who.By.{By}
 use Rattle.wc_base.specs.declared.error.NoMemory.{NoMemory}
 use Rattle.codec_model.specs.declared.entry.Pair.{Pair}
 use Rattle.codec_model.specs.declared.entry.HeldMedium.{HeldMedium}
+use Rattle.codec_model.specs.declared.entry.Handed.TheVariants as handed
 use Rattle.wc_pool.specs.declared.entry.PoolEntry.{PoolEntry}
 use Rattle.wc_pool.specs.declared.entry.PoolOp.TheVariants as op
 use Rattle.wc_pool.specs.declared.reference.MediaRef.{MediaRef}
-use Rattle.wc_pool.specs.Bag.{resource_of, references_made, is_legal_pool}
+use Rattle.wc_pool.specs.Bag.{resource_of, references_made, is_held, is_legal_pool}
+use Rattle.wc_pool.specs.Pools.{Adds}
 use Rattle.wc_pool.specs.Laws.{LiveAreNumbered}
 use Rattle.media_variables.specs.declared.lending.MediumFound.TheVariants as found
-use Rattle.media_variables.specs.Variables.{Medium, Lendable, variables_of, lendable_at, is_last_of}
+use Rattle.media_variables.specs.Variables.{Medium, Lendable, handed_of, variables_of, lendable_at, is_last_of}
 use Rattle.media_variables.specs.Held.{pair_of, medium_found, ends_behind, AreHeld, AreApart, IsLent}
+use Rattle.media_variables.specs.Given.{Lends}
 use Rattle.media_variables.proofs.Ends.{resource_more}
 use Rattle.media_variables.proofs.HeldLaws.{Mints, carried, minted_live, minted_held, fresh}
 use Rattle.media_variables.proofs.Places.{variables_back, variables_past}
@@ -66,6 +69,23 @@ none_left [] e = refl
 none_left (r ∷ rs) e = absurd (omega (arith, e))
 
 -- ---- clones
+
+-- what any pool lends, of one for one thread
+lent_by : (cause : By) (pool new : List PoolEntry) (medium : Option Lendable) (x : HeldMedium × MediaRef) → Lends (Adds pool new) cause medium x → IsLent cause pool new medium x
+lent_by cause pool new medium x h =
+    let parts = and_parts (is_held x.1.resource pool) (x.1.number == references_made pool) h.added.next in
+    let next = eqb-true x.1.number (references_made pool) parts.1 in
+    record {
+      handed = subst (λ (n : ℕ). IfSome medium (λ m. handed_of n true m ≡ handed.Cloned x.0)) next h.handed;
+      pair = h.pair;
+      history = h.added.longer;
+      may = parts.0;
+      next = next;
+    }
+
+pub lent_as : (cause : By) (pool new : List PoolEntry) (medium : Option Lendable) (r : Result (HeldMedium × MediaRef) NoMemory) → IfOk r (Lends (Adds pool new) cause medium) → IfOk r (IsLent cause pool new medium)
+lent_as cause pool new medium (Ok x) h = lent_by cause pool new medium x h
+lent_as cause pool new medium (Err e) h = tt
 
 abbrev lent_entry : By → MediaRef → PoolEntry
 lent_entry cause r = record { by = cause; op = op.Clone r.resource r.number }

@@ -3,6 +3,8 @@ pub mod Ends
 pub mod HeldLaws
 pub mod LegalLaws
 pub mod LendLaws
+pub mod Made
+pub mod OfLaws
 pub mod Places
+pub mod PoolLaws
 pub mod StepLaws
-pub mod Whole

@@ -1,5 +1,5 @@
 -- What a step of one caller comes to, by what it gives its variable.
-use Rattle.std.proofs.Common.{ℕ, ◌≡◌, ◌<◌, ◌≤◌, Bool, true, false, if◌then◌else◌, List, ◌++◌, length, take, Option, Some, None, refl, ap, sym, subst, ◌∙◌, append-nil, arith}
+use Rattle.std.proofs.Common.{ℕ, ◌≡◌, ◌<◌, ◌≤◌, Bool, true, false, if◌then◌else◌, List, length, take, Option, Some, None, refl, ap, sym, subst, ◌∙◌, arith}
 use Rattle.std.specs.Prelude.{option_map}
 use Rattle.std.proofs.lemmas.Bool.{false≢true}
 use Rattle.wc_base.specs.declared.who.Who.{Who}
@@ -8,72 +8,58 @@ use Rattle.codec_definitions.specs.declared.unit.Unit.TheVariants as unit
 use Rattle.wc_base.specs.declared.error.DomError.TheVariants as dom
 use Rattle.picture_planes.specs.Planes.{picture_size}
 use Rattle.wc_pool.specs.declared.entry.PoolEntry.{PoolEntry}
+use Rattle.wc_pool.specs.declared.reference.MediaRef.{MediaRef}
 use Rattle.wc_audio.specs.Sound as sound
 use Rattle.wc_video.specs.Frames as frames
+use Rattle.wc_chunk.specs.declared.chunk.Chunk.{Chunk}
+use Rattle.script_types.specs.declared.options.Options.{Options}
+use Rattle.script_types.specs.declared.options.Options.TheVariants as options
 use Rattle.script_types.specs.declared.steps.SoundInit.{SoundInit}
 use Rattle.script_types.specs.declared.steps.PictureInit.{PictureInit}
+use Rattle.script_types.specs.declared.steps.MediaStep.{MediaStep}
 use Rattle.report_text.specs.declared.result.StepResult.{StepResult}
 use Rattle.report_text.specs.declared.result.StepResult.TheVariants as result
 use Rattle.media_variables.specs.declared.given.Given.{Given}
-use Rattle.media_variables.specs.Variables.{Reference, Shape, SoundOf, PictureOf, Medium, Came, refused, entries_of, with_medium, detached, medium_at, only_answers, makes, audio_came, frame_came, clone_held, transfer_held, close_held, if_there, unit_came}
-use Rattle.media_variables.specs.Held.{held_by}
-use Rattle.media_variables.specs.Given.{Done, Does, Comes, gives_nothing, made_done, audio_done, frame_done, taken_done, cloned_done, clone_done, transferred_done, transfer_done, closed_answer, closed_op, given_to, without}
-use Rattle.media_variables.proofs.Places.{without_there, without_same}
+use Rattle.media_variables.specs.Variables.{Reference, Shape, SoundOf, PictureOf, Medium, Numbers, Came, refused, with_medium, detached, medium_at, only_answers, makes, audio_came, frame_came, clone_held, transfer_held, close_held, if_there, copy_came, copy_medium, size_of_medium, unit_came, Brought, media_came}
+use Rattle.media_variables.specs.Held.{WholeMedium, held_by, reference_of, seen, seen_in, whole_held, without_reference}
+use Rattle.media_variables.specs.Given.{Done, Does, Gives, CameBy, Acts, gives_nothing, made_done, audio_done, frame_done, taken_done, cloned_done, clone_done, transferred_done, transfer_done, transferred, transferred_at, closed_answer, closed_op, given_to, without, changed_at}
+use Rattle.media_variables.proofs.Places.{without_there, without_same, seen_at, seen_given, seen_without}
 
 -- the call found no variable there
 pub not_there : (j n : ℕ) → (j < n → false ≡ true) → n ≤ j
 not_there j n h = let apart : j < n → ⊥ = λ lt. false≢true (h lt) in omega arith
 
 abbrev came_of : ℕ → Done → List (Option Medium) → Came
-came_of j d vs = record { answer = d.given.answer; variables = given_to j d.given.medium vs; does = d.does }
+came_of j d vs = record { answer = d.answer; variables = given_to j d.medium vs; does = d.does }
 
-done_comes : (who : Who) (pool new : List PoolEntry) (vs after : List (Option Medium)) (d : Done) (g : Given) (r : StepResult) → Does who pool new d g → r ≡ g.answer → after ≡ given_to who.step g.medium vs → Comes who pool new after (came_of who.step d vs) r
-done_comes who pool new vs after d g r h answer variables = record {
-  answered = answer ∙ ap (λ (x : Given). x.answer) h.same;
-  variables = variables ∙ ap (λ (x : Given). given_to who.step x.medium vs) h.same;
-  history = h.history;
-}
+-- what a variable was given, as steps see it
+pub kept_seen : (j : ℕ) (m : Option WholeMedium) (before now : List (Option WholeMedium)) (vs : List (Option Medium)) → now ≡ given_to j m before → seen_in before ≡ vs → seen_in now ≡ given_to j (option_map seen m) vs
+kept_seen j m before now vs is same = ap seen_in is ∙ seen_given j m before ∙ ap (given_to j (option_map seen m)) same
 
-made_if : (b : Bool) (pool : List PoolEntry) (j : ℕ) (shape : Shape) (bytes : List ℕ) (vs : List (Option Medium)) → came_of j (if b then gives_nothing (refused dom.TypeErr) else made_done pool shape bytes) vs ≡ (if b then only_answers (refused dom.TypeErr) vs else makes pool j shape bytes vs)
-made_if true pool j shape bytes vs = refl
-made_if false pool j shape bytes vs = refl
+made_if : (b : Bool) (n : Numbers) (j : ℕ) (shape : Shape) (bytes : List ℕ) (vs : List (Option Medium)) → came_of j (if b then gives_nothing (refused dom.TypeErr) else made_done n shape bytes) vs ≡ (if b then only_answers (refused dom.TypeErr) vs else makes n j shape bytes vs)
+made_if true n j shape bytes vs = refl
+made_if false n j shape bytes vs = refl
 
-audio_is : (pool : List PoolEntry) (j : ℕ) (init : Option SoundInit) (vs : List (Option Medium)) → came_of j (audio_done pool init) vs ≡ audio_came pool j init vs
-audio_is pool j None vs = refl
-audio_is pool j (Some i) vs = made_if (sound.is_invalid i.shape (length i.content)) pool j (SoundOf i.shape) (take (sound.needed i.shape) i.content) vs
+audio_is : (n : Numbers) (j : ℕ) (init : Option SoundInit) (vs : List (Option Medium)) → came_of j (audio_done init n) vs ≡ audio_came n j init vs
+audio_is n j None vs = refl
+audio_is n j (Some i) vs = made_if (sound.is_invalid i.shape (length i.content)) n j (SoundOf i.shape) (take (sound.needed i.shape) i.content) vs
 
-frame_is : (pool : List PoolEntry) (j : ℕ) (init : Option PictureInit) (vs : List (Option Medium)) → came_of j (frame_done pool init) vs ≡ frame_came pool j init vs
-frame_is pool j None vs = refl
-frame_is pool j (Some i) vs = made_if (frames.is_invalid i.shape (length i.content)) pool j (PictureOf i.shape) (take (picture_size i.shape) i.content) vs
+frame_is : (n : Numbers) (j : ℕ) (init : Option PictureInit) (vs : List (Option Medium)) → came_of j (frame_done init n) vs ≡ frame_came n j init vs
+frame_is n j None vs = refl
+frame_is n j (Some i) vs = made_if (frames.is_invalid i.shape (length i.content)) n j (PictureOf i.shape) (take (picture_size i.shape) i.content) vs
 
-taken_is : (pool : List PoolEntry) (j : ℕ) (answer : StepResult) (u : output.Unit) (vs : List (Option Medium)) → came_of j (taken_done pool answer u) vs ≡ unit_came pool j answer u vs
-taken_is pool j answer (unit.Sound s) vs = refl
-taken_is pool j answer (unit.Image p) vs = refl
-taken_is pool j answer (unit.Coded chunk config) vs = refl
+taken_is : (n : Numbers) (j : ℕ) (answer : StepResult) (u : output.Unit) (vs : List (Option Medium)) → came_of j (taken_done answer u n) vs ≡ unit_came n j answer u vs
+taken_is n j answer (unit.Sound s) vs = refl
+taken_is n j answer (unit.Image p) vs = refl
+taken_is n j answer (unit.Coded chunk config) vs = refl
 
-cloned_is : (pool : List PoolEntry) (j : ℕ) (shape : Shape) (held : Option Reference) (vs : List (Option Medium)) → came_of j (cloned_done pool shape held) vs ≡ clone_held pool j shape held vs
-cloned_is pool j shape None vs = refl
-cloned_is pool j shape (Some r) vs = refl
+cloned_is : (n : Numbers) (j : ℕ) (shape : Shape) (held : Option Reference) (vs : List (Option Medium)) → came_of j (cloned_done shape held n) vs ≡ clone_held n j shape held vs
+cloned_is n j shape None vs = refl
+cloned_is n j shape (Some r) vs = refl
 
-clone_is : (pool : List PoolEntry) (j : ℕ) (v : Option Medium) (vs : List (Option Medium)) → came_of j (clone_done pool v) vs ≡ if_there v vs (λ m. clone_held pool j m.shape m.held vs)
-clone_is pool j None vs = refl
-clone_is pool j (Some m) vs = cloned_is pool j m.shape m.held vs
-
-pub audio_comes : (who : Who) (pool new : List PoolEntry) (vs after : List (Option Medium)) (init : Option SoundInit) (g : Given) (r : StepResult) → Does who pool new (audio_done pool init) g → r ≡ g.answer → after ≡ given_to who.step g.medium vs → Comes who pool new after (audio_came pool who.step init vs) r
-audio_comes who pool new vs after init g r h answer variables =
-    subst (λ (c : Came). Comes who pool new after c r) (audio_is pool who.step init vs) (done_comes who pool new vs after (audio_done pool init) g r h answer variables)
-
-pub frame_comes : (who : Who) (pool new : List PoolEntry) (vs after : List (Option Medium)) (init : Option PictureInit) (g : Given) (r : StepResult) → Does who pool new (frame_done pool init) g → r ≡ g.answer → after ≡ given_to who.step g.medium vs → Comes who pool new after (frame_came pool who.step init vs) r
-frame_comes who pool new vs after init g r h answer variables =
-    subst (λ (c : Came). Comes who pool new after c r) (frame_is pool who.step init vs) (done_comes who pool new vs after (frame_done pool init) g r h answer variables)
-
-pub take_comes : (who : Who) (pool new : List PoolEntry) (vs after : List (Option Medium)) (answer : StepResult) (u : output.Unit) (g : Given) (r : StepResult) → Does who pool new (taken_done pool answer u) g → r ≡ g.answer → after ≡ given_to who.step g.medium vs → Comes who pool new after (unit_came pool who.step answer u vs) r
-take_comes who pool new vs after answer u g r h answered variables =
-    subst (λ (c : Came). Comes who pool new after c r) (taken_is pool who.step answer u vs) (done_comes who pool new vs after (taken_done pool answer u) g r h answered variables)
-
-pub clone_comes : (who : Who) (pool new : List PoolEntry) (vs after : List (Option Medium)) (v : Option Medium) (g : Given) (r : StepResult) → Does who pool new (clone_done pool v) g → r ≡ g.answer → after ≡ given_to who.step g.medium vs → Comes who pool new after (if_there v vs (λ m. clone_held pool who.step m.shape m.held vs)) r
-clone_comes who pool new vs after v g r h answer variables =
-    subst (λ (c : Came). Comes who pool new after c r) (clone_is pool who.step v vs) (done_comes who pool new vs after (clone_done pool v) g r h answer variables)
+clone_is : (n : Numbers) (j : ℕ) (v : Option Medium) (vs : List (Option Medium)) → came_of j (clone_done v n) vs ≡ if_there v vs (λ m. clone_held n j m.shape m.held vs)
+clone_is n j None vs = refl
+clone_is n j (Some m) vs = cloned_is n j m.shape m.held vs
 
 -- a medium that is detached already
 detached_same : (m : Medium) → m.held ≡ None → detached m ≡ m
@@ -86,50 +72,148 @@ without_detached vs j m there none =
 without_absent : (vs : List (Option Medium)) (j : ℕ) → medium_at vs j ≡ None → without j vs ≡ vs
 without_absent vs j none = without_same vs j (ap (option_map detached) none ∙ sym none)
 
-transferred_comes : (who : Who) (of : ℕ) (pool : List PoolEntry) (vs after : List (Option Medium)) (m : Medium) (held : Option Reference) (r : StepResult) → medium_at vs of ≡ Some m → m.held ≡ held → r ≡ (transferred_done m held).given.answer → after ≡ given_to who.step (transferred_done m held).given.medium (without of vs) → Comes who pool pool after (transfer_held who.step of m held vs) r
-transferred_comes who of pool vs after m None r there is answer variables = record {
-  answered = answer;
-  variables = variables ∙ without_detached vs of m there is;
-  history = sym (append-nil pool);
-}
-transferred_comes who of pool vs after m (Some x) r there is answer variables = record {
-  answered = answer;
-  variables = variables ∙ ap (with_medium who.step m) (without_there vs of m there);
-  history = sym (append-nil pool);
-}
+transferred_answer : (m : WholeMedium) (o : Option MediaRef) → (transferred m o).answer ≡ (transferred_done (seen m) (option_map reference_of o)).answer
+transferred_answer m None = refl
+transferred_answer m (Some r) = refl
 
-transfer_there : (who : Who) (of : ℕ) (pool : List PoolEntry) (vs after : List (Option Medium)) (v : Option Medium) (r : StepResult) → medium_at vs of ≡ v → r ≡ (transfer_done v).given.answer → after ≡ given_to who.step (transfer_done v).given.medium (without of vs) → Comes who pool pool after (if_there v vs (λ m. transfer_held who.step of m m.held vs)) r
-transfer_there who of pool vs after None r there answer variables = record {
-  answered = answer;
-  variables = variables ∙ without_absent vs of there;
-  history = sym (append-nil pool);
-}
-transfer_there who of pool vs after (Some m) r there answer variables = transferred_comes who of pool vs after m m.held r there refl answer variables
+transferred_medium : (m : WholeMedium) (o : Option MediaRef) → option_map seen (transferred m o).medium ≡ (transferred_done (seen m) (option_map reference_of o)).medium
+transferred_medium m None = refl
+transferred_medium m (Some r) = refl
 
-pub transfer_comes : (who : Who) (of : ℕ) (pool : List PoolEntry) (vs after : List (Option Medium)) (g : Given) (r : StepResult) → g ≡ (transfer_done (medium_at vs of)).given → r ≡ g.answer → after ≡ given_to who.step g.medium (without of vs) → Comes who pool pool after (if_there (medium_at vs of) vs (λ m. transfer_held who.step of m m.held vs)) r
-transfer_comes who of pool vs after g r is answer variables =
-    transfer_there who of pool vs after (medium_at vs of) r refl (answer ∙ ap (λ (x : Given). x.answer) is) (variables ∙ ap (λ (x : Given). given_to who.step x.medium (without of vs)) is)
+transfer_answer : (v : Option WholeMedium) → (transferred_at v).answer ≡ (transfer_done (option_map seen v)).answer
+transfer_answer None = refl
+transfer_answer (Some m) = transferred_answer m m.held
 
-closed_comes : (who : Who) (of : ℕ) (pool new : List PoolEntry) (vs after : List (Option Medium)) (m : Medium) (held : Option Reference) (r : StepResult) → medium_at vs of ≡ Some m → m.held ≡ held → r ≡ result.Local None → after ≡ without of vs → new ≡ pool ++ entries_of who (closed_op pool who held) → Comes who pool new after (close_held pool who of m held vs) r
-closed_comes who of pool new vs after m None r there is answer variables history = record {
-  answered = answer;
-  variables = variables ∙ without_detached vs of m there is;
-  history = history;
-}
-closed_comes who of pool new vs after m (Some x) r there is answer variables history = record {
-  answered = answer;
-  variables = variables ∙ without_there vs of m there;
-  history = history;
-}
+transfer_medium : (v : Option WholeMedium) → option_map seen (transferred_at v).medium ≡ (transfer_done (option_map seen v)).medium
+transfer_medium None = refl
+transfer_medium (Some m) = transferred_medium m m.held
 
-close_there : (who : Who) (of : ℕ) (pool new : List PoolEntry) (vs after : List (Option Medium)) (v : Option Medium) (r : StepResult) → medium_at vs of ≡ v → r ≡ closed_answer v → after ≡ without of vs → new ≡ pool ++ entries_of who (closed_op pool who (held_by v)) → Comes who pool new after (if_there v vs (λ m. close_held pool who of m m.held vs)) r
-close_there who of pool new vs after None r there answer variables history = record {
-  answered = answer;
-  variables = variables ∙ without_absent vs of there;
-  history = history;
-}
-close_there who of pool new vs after (Some m) r there answer variables history = closed_comes who of pool new vs after m m.held r there refl answer variables history
+seen_answer : (v : Option WholeMedium) → closed_answer v ≡ closed_answer (option_map seen v)
+seen_answer None = refl
+seen_answer (Some m) = refl
 
-pub close_comes : (who : Who) (of : ℕ) (pool new : List PoolEntry) (vs after : List (Option Medium)) (v : Option Medium) (r : StepResult) → medium_at vs of ≡ v → r ≡ closed_answer v → after ≡ without of vs → new ≡ pool ++ entries_of who (closed_op pool who (held_by v)) → Comes who pool new after (if_there (medium_at vs of) vs (λ m. close_held pool who of m m.held vs)) r
-close_comes who of pool new vs after v r there answer variables history =
-    subst (λ (w : Option Medium). Comes who pool new after (if_there w vs (λ m. close_held pool who of m m.held vs)) r) (sym there) (close_there who of pool new vs after v r there answer variables history)
+whole_held_seen : (v : Option WholeMedium) → option_map reference_of (whole_held v) ≡ held_by (option_map seen v)
+whole_held_seen None = refl
+whole_held_seen (Some m) = refl
+
+module _ (adds : PoolEntry → Type 0) (same : Type 0) (who : Who) (vs after : List (Option Medium)) where
+  given_acts : (done : Numbers → Done) (came : Numbers → Came) (g : Given) (r : StepResult) → ((n : Numbers) → came_of who.step (done n) vs ≡ came n) → Gives adds same who done g → r ≡ g.answer → after ≡ given_to who.step (option_map seen g.medium) vs
+      → Acts adds same who (λ n. Some (came n)) vs after (Some r)
+  given_acts done came g r is h answer variables = record {
+    numbers = h.numbers;
+    came_by = subst (λ (c : Came). CameBy adds same who vs after (Some c) (Some r)) (is h.numbers)
+        (ap Some (answer ∙ h.answered), h.does, variables ∙ ap (λ (m : Option Medium). given_to who.step m vs) h.medium);
+  }
+
+  pub audio_acts : (init : Option SoundInit) (g : Given) (r : StepResult) → Gives adds same who (audio_done init) g → r ≡ g.answer → after ≡ given_to who.step (option_map seen g.medium) vs → Acts adds same who (λ n. Some (audio_came n who.step init vs)) vs after (Some r)
+  audio_acts init g r = given_acts _ _ g r (λ n. audio_is n who.step init vs)
+
+  pub frame_acts : (init : Option PictureInit) (g : Given) (r : StepResult) → Gives adds same who (frame_done init) g → r ≡ g.answer → after ≡ given_to who.step (option_map seen g.medium) vs → Acts adds same who (λ n. Some (frame_came n who.step init vs)) vs after (Some r)
+  frame_acts init g r = given_acts _ _ g r (λ n. frame_is n who.step init vs)
+
+  pub take_acts : (answer : StepResult) (u : output.Unit) (g : Given) (r : StepResult) → Gives adds same who (taken_done answer u) g → r ≡ g.answer → after ≡ given_to who.step (option_map seen g.medium) vs → Acts adds same who (λ n. Some (unit_came n who.step answer u vs)) vs after (Some r)
+  take_acts answer u g r = given_acts _ _ g r (λ n. taken_is n who.step answer u vs)
+
+  pub clone_acts : (v : Option Medium) (g : Given) (r : StepResult) → Gives adds same who (clone_done v) g → r ≡ g.answer → after ≡ given_to who.step (option_map seen g.medium) vs
+      → Acts adds same who (λ n. Some (if_there v vs (λ m. clone_held n who.step m.shape m.held vs))) vs after (Some r)
+  clone_acts v g r = given_acts _ _ g r (λ n. clone_is n who.step v vs)
+
+  -- ---- a transfer
+
+  transferred_came : (of : ℕ) (m : Medium) (held : Option Reference) (r : StepResult) → same → medium_at vs of ≡ Some m → m.held ≡ held → r ≡ (transferred_done m held).answer → after ≡ given_to who.step (transferred_done m held).medium (without of vs)
+      → CameBy adds same who vs after (Some (transfer_held who.step of m held vs)) (Some r)
+  transferred_came of m None r here there is answer variables = (ap Some answer, here, variables ∙ without_detached vs of m there is)
+  transferred_came of m (Some x) r here there is answer variables = (ap Some answer, here, variables ∙ ap (with_medium who.step m) (without_there vs of m there))
+
+  transfer_came : (of : ℕ) (v : Option Medium) (r : StepResult) → same → medium_at vs of ≡ v → r ≡ (transfer_done v).answer → after ≡ given_to who.step (transfer_done v).medium (without of vs)
+      → CameBy adds same who vs after (Some (if_there v vs (λ m. transfer_held who.step of m m.held vs))) (Some r)
+  transfer_came of None r here there answer variables = (ap Some answer, here, variables ∙ without_absent vs of there)
+  transfer_came of (Some m) r here there answer variables = transferred_came of m m.held r here there refl answer variables
+
+  -- ---- a close
+
+  closed_came : (of : ℕ) (m : Medium) (held : Option Reference) (r : StepResult) → medium_at vs of ≡ Some m → m.held ≡ held → r ≡ result.Local None → after ≡ without of vs → Does adds same who (closed_op held)
+      → CameBy adds same who vs after (Some (close_held of m held vs)) (Some r)
+  closed_came of m None r there is answer variables does = (ap Some answer, does, variables ∙ without_detached vs of m there is)
+  closed_came of m (Some x) r there is answer variables does = (ap Some answer, does, variables ∙ without_there vs of m there)
+
+  close_came : (of : ℕ) (v : Option Medium) (r : StepResult) → medium_at vs of ≡ v → r ≡ closed_answer v → after ≡ without of vs → Does adds same who (closed_op (held_by v))
+      → CameBy adds same who vs after (Some (if_there v vs (λ m. close_held of m m.held vs))) (Some r)
+  close_came of None r there answer variables does = (ap Some answer, does, variables ∙ without_absent vs of there)
+  close_came of (Some m) r there answer variables does = closed_came of m m.held r there refl answer variables does
+
+no_numbers : Numbers
+no_numbers = record { resource = 0; reference = 0 }
+
+pub transfer_acts : (adds : PoolEntry → Type 0) (same : Type 0) (who : Who) (items now : List (Option WholeMedium)) (of : ℕ) (g : Given) (r : StepResult) → same → g ≡ transferred_at (medium_at items of) → r ≡ g.answer → now ≡ given_to who.step g.medium (changed_at without_reference of items)
+    → Acts adds same who (λ n. Some (if_there (medium_at (seen_in items) of) (seen_in items) (λ m. transfer_held who.step of m m.held (seen_in items)))) (seen_in items) (seen_in now) (Some r)
+transfer_acts adds same who items now of g r here is answer variables =
+    let w = medium_at items of in
+    let seen_is = seen_at items of in
+    let answered = answer ∙ ap (λ (x : Given). x.answer) is ∙ transfer_answer w ∙ ap (λ (v : Option Medium). (transfer_done v).answer) (sym seen_is) in
+    let medium = ap (λ (x : Given). option_map seen x.medium) is ∙ transfer_medium w ∙ ap (λ (v : Option Medium). (transfer_done v).medium) (sym seen_is) in
+    let kept = kept_seen who.step g.medium (changed_at without_reference of items) now (without of (seen_in items)) variables (seen_without of items) in
+    record {
+      numbers = no_numbers;
+      came_by = transfer_came adds same who (seen_in items) (seen_in now) of (medium_at (seen_in items) of) r here refl answered (kept ∙ ap (λ (m : Option Medium). given_to who.step m (without of (seen_in items))) medium);
+    }
+
+pub close_acts : (adds : PoolEntry → Type 0) (same : Type 0) (who : Who) (items now : List (Option WholeMedium)) (of : ℕ) (w : Option WholeMedium) (r : StepResult) → medium_at items of ≡ w → r ≡ closed_answer w → now ≡ changed_at without_reference of items → Does adds same who (closed_op (option_map reference_of (whole_held w)))
+    → Acts adds same who (λ n. Some (if_there (medium_at (seen_in items) of) (seen_in items) (λ m. close_held of m m.held (seen_in items)))) (seen_in items) (seen_in now) (Some r)
+close_acts adds same who items now of w r at answer variables does =
+    let seen_is = seen_at items of ∙ ap (option_map seen) at in
+    let answered = answer ∙ seen_answer w ∙ ap (λ (v : Option Medium). closed_answer v) (sym seen_is) in
+    let done = subst (λ (o : Option Reference). Does adds same who (closed_op o)) (whole_held_seen w ∙ ap held_by (sym seen_is)) does in
+    record {
+      numbers = no_numbers;
+      came_by = close_came adds same who (seen_in items) (seen_in now) of (medium_at (seen_in items) of) r refl answered (ap seen_in variables ∙ seen_without of items) done;
+    }
+
+-- ---- steps that make nothing
+
+reads_keep : (v : Option Medium) (vs : List (Option Medium)) (answer : Medium → StepResult) → ((if_there v vs (λ m. only_answers (answer m) vs)).variables ≡ vs) × ((if_there v vs (λ m. only_answers (answer m) vs)).does ≡ None)
+reads_keep None vs answer = (refl, refl)
+reads_keep (Some m) vs answer = (refl, refl)
+
+copy_keeps : (chunk : Option Chunk) (of : ℕ) (o : Options) (size : ℕ) (vs : List (Option Medium)) → ((copy_came chunk of o size vs).variables ≡ vs) × ((copy_came chunk of o size vs).does ≡ None)
+copy_keeps chunk of options.Nothing size vs = (refl, refl)
+copy_keeps chunk of (options.Audio o) size vs = reads_keep (medium_at vs of) vs (λ m. copy_medium m (options.Audio o) size)
+copy_keeps chunk of (options.Frame o) size vs = reads_keep (medium_at vs of) vs (λ m. copy_medium m (options.Frame o) size)
+
+module _ (adds : PoolEntry → Type 0) (same : Type 0) (who : Who) (vs : List (Option Medium)) where
+  reads_act : (c : Came) (r : StepResult) → same → r ≡ c.answer → (c.variables ≡ vs) × (c.does ≡ None) → Acts adds same who (λ n. Some c) vs vs (Some r)
+  reads_act c r here answer keeps = record {
+    numbers = no_numbers;
+    came_by = (ap Some answer, subst (Does adds same who) (sym keeps.1) here, sym keeps.0);
+  }
+
+  pub copy_acts : (chunk : Option Chunk) (of : ℕ) (o : Options) (size : ℕ) (r : StepResult) → same → r ≡ (copy_came chunk of o size vs).answer → Acts adds same who (λ n. Some (copy_came chunk of o size vs)) vs vs (Some r)
+  copy_acts chunk of o size r here answer = reads_act (copy_came chunk of o size vs) r here answer (copy_keeps chunk of o size vs)
+
+  pub size_acts : (of : ℕ) (o : Options) (r : StepResult) → same → r ≡ (if_there (medium_at vs of) vs (λ m. only_answers (size_of_medium m o) vs)).answer
+      → Acts adds same who (λ n. Some (if_there (medium_at vs of) vs (λ m. only_answers (size_of_medium m o) vs))) vs vs (Some r)
+  size_acts of o r here answer = reads_act (if_there (medium_at vs of) vs (λ m. only_answers (size_of_medium m o) vs)) r here answer (reads_keep (medium_at vs of) vs (λ m. size_of_medium m o))
+
+  -- a step that is the codec's
+  pub codecs_act : (came : Numbers → Option Came) → ((n : Numbers) → came n ≡ None) → same → Acts adds same who came vs vs None
+  codecs_act came none here = record { numbers = no_numbers; came_by = subst (λ (y : Option Came). CameBy adds same who vs vs y None) (sym (none no_numbers)) (refl, here, refl) }
+
+-- ---- every step
+
+module _ (adds : PoolEntry → Type 0) (same : Type 0) (who : Who) (items slice : List (Option WholeMedium)) where
+  -- where the variables were read from a slice
+  pub copied_acts : (chunk : Option Chunk) (of : ℕ) (o : Options) (size : ℕ) (r : StepResult) → same → slice ≡ items → r ≡ (copy_came chunk of o size (seen_in slice)).answer
+      → Acts adds same who (λ n. Some (copy_came chunk of o size (seen_in items))) (seen_in items) (seen_in items) (Some r)
+  copied_acts chunk of o size r here is answer =
+      copy_acts adds same who (seen_in items) chunk of o size r here (answer ∙ ap (λ (l : List (Option WholeMedium)). (copy_came chunk of o size (seen_in l)).answer) is)
+
+  pub sized_acts : (of : ℕ) (o : Options) (r : StepResult) → same → slice ≡ items → r ≡ (if_there (medium_at (seen_in slice) of) (seen_in slice) (λ m. only_answers (size_of_medium m o) (seen_in slice))).answer
+      → Acts adds same who (λ n. Some (if_there (medium_at (seen_in items) of) (seen_in items) (λ m. only_answers (size_of_medium m o) (seen_in items)))) (seen_in items) (seen_in items) (Some r)
+  sized_acts of o r here is answer =
+      size_acts adds same who (seen_in items) of o r here (answer ∙ ap (λ (l : List (Option WholeMedium)). (if_there (medium_at (seen_in l) of) (seen_in l) (λ m. only_answers (size_of_medium m o) (seen_in l))).answer) is)
+
+-- what a step of this kind does, the step does
+pub step_acts : {S : Type 0} (adds : S → PoolEntry → Type 0) (old : S) (who : Who) (b : Brought) (vs : List (Option Medium)) (step x : MediaStep) (pool now : S) (after later : List (Option Medium)) (r answer : StepResult)
+    → step ≡ x → pool ≡ now → after ≡ later → r ≡ answer → Acts (adds now) (now ≡ old) who (λ n. media_came n who b x vs) vs later (Some answer)
+    → Acts (adds pool) (pool ≡ old) who (λ n. media_came n who b step vs) vs after (Some r)
+step_acts adds old who b vs step x pool now after later r answer kind stands seen_as is h = rw (stands, kind, seen_as, is) h

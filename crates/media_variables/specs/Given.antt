@@ -1,14 +1,18 @@
--- What a step on media answers and gives its variable, apart from all variables.
-use Rattle.std.specs.Prelude.{ℕ, zero, suc, ◌≡◌, ◌++◌, List, [], ◌∷◌, length, take, Option, Some, None, option_map, if◌then◌else◌}
+-- What a step on media answers and gives its variable, apart from all variables; and what it does to a pool, whichever that is.
+use Rattle.std.specs.Prelude.{ℕ, zero, suc, ◌≡◌, Bool, true, false, List, [], ◌∷◌, length, take, Option, Some, None, IfSome, option_map, option_and_then, if◌then◌else◌}
 use Rattle.wc_base.specs.declared.error.DomError.TheVariants as dom
+use Rattle.wc_base.specs.declared.who.By.{By}
 use Rattle.wc_base.specs.declared.who.Who.{Who}
 use Rattle.codec_definitions.specs.declared.unit.Unit as output
 use Rattle.codec_definitions.specs.declared.unit.Unit.TheVariants as unit
+use Rattle.codec_model.specs.declared.entry.HeldMedium.{HeldMedium}
+use Rattle.codec_model.specs.declared.entry.Handed.TheVariants as handed
 use Rattle.picture_planes.specs.Planes.{picture_size}
 use Rattle.wc_pool.specs.declared.entry.PoolEntry.{PoolEntry}
 use Rattle.wc_pool.specs.declared.entry.PoolOp.{PoolOp}
 use Rattle.wc_pool.specs.declared.entry.PoolOp.TheVariants as op
-use Rattle.wc_pool.specs.Bag.{resources_made, references_made}
+use Rattle.wc_pool.specs.declared.reference.MediaRef.{MediaRef}
+use Rattle.wc_pool.specs.Pools.{cloned_by}
 use Rattle.wc_audio.specs.Sound as sound
 use Rattle.wc_video.specs.Frames as frames
 use Rattle.script_types.specs.declared.steps.SoundInit.{SoundInit}
@@ -16,53 +20,54 @@ use Rattle.script_types.specs.declared.steps.PictureInit.{PictureInit}
 use Rattle.report_text.specs.declared.result.StepResult.{StepResult}
 use Rattle.report_text.specs.declared.result.StepResult.TheVariants as result
 use Rattle.media_variables.specs.declared.given.Given.{Given}
-use Rattle.media_variables.specs.Variables.{Reference, Shape, SoundOf, PictureOf, Medium, Came, refused, detached, entries_of, is_last, with_medium, chunk_medium}
+use Rattle.media_variables.specs.Variables.{Reference, Shape, SoundOf, PictureOf, Medium, Numbers, Came, Lendable, refused, detached, handed_of, entry_of, with_medium, chunk_medium}
+use Rattle.media_variables.specs.Held.{WholeMedium, pair_of, seen}
 
--- an answer and what is given, and what is done to the pool
+-- an answer, what is given to the step's variable, and what is done to the pool
 pub record Done : Type 0 where
-  pub given : Given
+  pub answer : StepResult
+  pub medium : Option Medium
   pub does : Option PoolOp
 
 abbrev pub gives_nothing : StepResult → Done
-gives_nothing r = record { given = record { answer = r; medium = None }; does = None }
+gives_nothing r = record { answer = r; medium = None; does = None }
 
 abbrev pub gives : Medium → Option PoolOp → Done
-gives m does = record { given = record { answer = result.Local None; medium = Some m }; does = does }
+gives m does = record { answer = result.Local None; medium = Some m; does = does }
 
-abbrev pub made_done : List PoolEntry → Shape → List ℕ → Done
-made_done pool shape bytes =
-    gives (record { shape = shape; held = Some (record { resource = resources_made pool; number = references_made pool; bytes = bytes }) }) (Some (op.Make (resources_made pool) (references_made pool)))
+abbrev pub made_done : Numbers → Shape → List ℕ → Done
+made_done n shape bytes =
+    gives (record { shape = shape; held = Some (record { resource = n.resource; number = n.reference; bytes = bytes }) }) (Some (op.Make n.resource n.reference))
 
 -- the same, with another answer
 abbrev pub with_answer : StepResult → Done → Done
-with_answer r d = record { given = record { answer = r; medium = d.given.medium }; does = d.does }
+with_answer r d = record d { answer = r }
 
-abbrev pub audio_done : List PoolEntry → Option SoundInit → Done
-audio_done pool None = gives_nothing (refused dom.TypeErr)
-audio_done pool (Some i) =
+abbrev pub audio_done : Option SoundInit → Numbers → Done
+audio_done None n = gives_nothing (refused dom.TypeErr)
+audio_done (Some i) n =
     if sound.is_invalid i.shape (length i.content) then gives_nothing (refused dom.TypeErr)
-    else made_done pool (SoundOf i.shape) (take (sound.needed i.shape) i.content)
+    else made_done n (SoundOf i.shape) (take (sound.needed i.shape) i.content)
 
-abbrev pub frame_done : List PoolEntry → Option PictureInit → Done
-frame_done pool None = gives_nothing (refused dom.TypeErr)
-frame_done pool (Some i) =
+abbrev pub frame_done : Option PictureInit → Numbers → Done
+frame_done None n = gives_nothing (refused dom.TypeErr)
+frame_done (Some i) n =
     if frames.is_invalid i.shape (length i.content) then gives_nothing (refused dom.TypeErr)
-    else made_done pool (PictureOf i.shape) (take (picture_size i.shape) i.content)
+    else made_done n (PictureOf i.shape) (take (picture_size i.shape) i.content)
 
 -- an output that is taken, with this answer
-abbrev pub taken_done : List PoolEntry → StepResult → output.Unit → Done
-taken_done pool answer (unit.Sound s) = with_answer answer (made_done pool (SoundOf s.shape) s.bytes)
-taken_done pool answer (unit.Image p) = with_answer answer (made_done pool (PictureOf p.shape) p.bytes)
-taken_done pool answer (unit.Coded chunk config) = record { given = record { answer = answer; medium = Some (chunk_medium chunk) }; does = None }
+abbrev pub taken_done : StepResult → output.Unit → Numbers → Done
+taken_done answer (unit.Sound s) n = with_answer answer (made_done n (SoundOf s.shape) s.bytes)
+taken_done answer (unit.Image p) n = with_answer answer (made_done n (PictureOf p.shape) p.bytes)
+taken_done answer (unit.Coded chunk config) n = record { answer = answer; medium = Some (chunk_medium chunk); does = None }
 
-abbrev pub cloned_done : List PoolEntry → Shape → Option Reference → Done
-cloned_done pool shape None = gives_nothing (refused dom.InvalidState)
-cloned_done pool shape (Some r) =
-    gives (record { shape = shape; held = Some (record r { number = references_made pool }) }) (Some (op.Clone r.resource (references_made pool)))
+abbrev pub cloned_done : Shape → Option Reference → Numbers → Done
+cloned_done shape None n = gives_nothing (refused dom.InvalidState)
+cloned_done shape (Some r) n = gives (record { shape = shape; held = Some (record r { number = n.reference }) }) (Some (op.Clone r.resource n.reference))
 
-abbrev pub clone_done : List PoolEntry → Option Medium → Done
-clone_done pool None = gives_nothing result.Absent
-clone_done pool (Some m) = cloned_done pool m.shape m.held
+abbrev pub clone_done : Option Medium → Numbers → Done
+clone_done None n = gives_nothing result.Absent
+clone_done (Some m) n = cloned_done m.shape m.held n
 
 abbrev pub transferred_done : Medium → Option Reference → Done
 transferred_done m None = gives_nothing (refused dom.DataClone)
@@ -73,37 +78,69 @@ transfer_done None = gives_nothing result.Absent
 transfer_done (Some m) = transferred_done m m.held
 
 -- the answer of a close, and what it does to the pool
-abbrev pub closed_answer : Option Medium → StepResult
+abbrev pub closed_answer : {X : Type 0} → Option X → StepResult
 closed_answer None = result.Absent
 closed_answer (Some m) = result.Local None
 
-abbrev pub closed_op : List PoolEntry → Who → Option Reference → Option PoolOp
-closed_op pool who None = None
-closed_op pool who (Some r) = Some (op.End r.resource r.number (is_last who r pool))
+abbrev pub closed_op : Option Reference → Option PoolOp
+closed_op None = None
+closed_op (Some r) = Some (op.End r.resource r.number false)
 
--- the variable of the step with this number is detached, if it holds something
+-- the variable of the step with this number is changed, if it holds something
+abbrev pub changed_at : {X : Type 0} → (X → X) → ℕ → List (Option X) → List (Option X)
+changed_at f j [] = []
+changed_at f zero (v ∷ vs) = option_map f v ∷ vs
+changed_at f (suc j) (v ∷ vs) = v ∷ changed_at f j vs
+
+-- it is detached
 abbrev pub without : ℕ → List (Option Medium) → List (Option Medium)
-without j [] = []
-without zero (v ∷ vs) = option_map detached v ∷ vs
-without (suc j) (v ∷ vs) = v ∷ without j vs
-
--- a step answers, gives, and does this
-pub record Does (who : Who) (pool new : List PoolEntry) (done : Done) (g : Given) : Type 0 where
-  pub same : g ≡ done.given
-  pub history : new ≡ pool ++ entries_of who done.does
+without j vs = changed_at detached j vs
 
 -- the variable of the step with this number holds what is given, if something is
-abbrev pub given_to : ℕ → Option Medium → List (Option Medium) → List (Option Medium)
+abbrev pub given_to : {X : Type 0} → ℕ → Option X → List (Option X) → List (Option X)
 given_to j None vs = vs
 given_to j (Some m) vs = with_medium j m vs
 
--- a step on one caller's variables came to this
-pub record Comes (who : Who) (pool new : List PoolEntry) (after : List (Option Medium)) (c : Came) (answer : StepResult) : Type 0 where
-  pub answered : answer ≡ c.answer
-  pub variables : after ≡ c.variables
-  pub history : new ≡ pool ++ entries_of who c.does
+-- ---- over any pool
 
--- the same of every step; one that is the codec's changes nothing
-abbrev pub Reaches : Who → List PoolEntry → List PoolEntry → List (Option Medium) → List (Option Medium) → Option Came → Option StepResult → Type 0
-Reaches who pool new vs after None answer = (answer ≡ None) × (new ≡ pool) × (after ≡ vs)
-Reaches who pool new vs after (Some c) answer = (answer ≡ Some c.answer) × (new ≡ pool ++ entries_of who c.does) × (after ≡ c.variables)
+-- A step does this to a pool: it makes the one entry of it, where an end says of its resource what the pool knows; or none,
+-- and the pool is the same.
+abbrev pub Does : (PoolEntry → Type 0) → Type 0 → Who → Option PoolOp → Type 0
+Does adds same who None = same
+Does adds same who (Some o) = (last : Bool) × adds (entry_of who last o)
+
+-- A step answers, gives and does this, with some numbers for what it makes.
+pub record Gives (adds : PoolEntry → Type 0) (same : Type 0) (who : Who) (done : Numbers → Done) (g : Given) : Type 0 where
+  pub numbers : Numbers
+  pub answered : g.answer ≡ (done numbers).answer
+  pub medium : option_map seen g.medium ≡ (done numbers).medium
+  pub does : Does adds same who (done numbers).does
+
+-- what is given is of the pool
+abbrev pub IsGivenOf : (MediaRef → Type 0) → Given → Type 0
+IsGivenOf is_of g = IfSome g.medium (λ m. IfSome m.held is_of)
+
+-- what a transfer gives, with all of its reference
+abbrev pub transferred : WholeMedium → Option MediaRef → Given
+transferred m None = record { answer = refused dom.DataClone; medium = None }
+transferred m (Some r) = record { answer = result.Local None; medium = Some m }
+
+abbrev pub transferred_at : Option WholeMedium → Given
+transferred_at None = record { answer = result.Absent; medium = None }
+transferred_at (Some m) = transferred m m.held
+
+-- a step on one caller's variables came to this; one that is the codec's changes nothing
+abbrev pub CameBy : (PoolEntry → Type 0) → Type 0 → Who → List (Option Medium) → List (Option Medium) → Option Came → Option StepResult → Type 0
+CameBy adds same who vs after None answer = (answer ≡ None) × same × (after ≡ vs)
+CameBy adds same who vs after (Some c) answer = (answer ≡ Some c.answer) × Does adds same who c.does × (after ≡ c.variables)
+
+-- A step on one caller's variables came to what it comes to with some numbers, which are those in its one entry.
+pub record Acts (adds : PoolEntry → Type 0) (same : Type 0) (who : Who) (came : Numbers → Option Came) (vs after : List (Option Medium)) (answer : Option StepResult) : Type 0 where
+  pub numbers : Numbers
+  pub came_by : CameBy adds same who vs after (came numbers) answer
+
+-- An open medium, with one reference more to its resource: what an encode that is accepted is handed.
+pub record Lends (adds : PoolEntry → Type 0) (cause : By) (medium : Option Lendable) (x : HeldMedium × MediaRef) : Type 0 where
+  pub handed : IfSome medium (λ m. handed_of x.1.number true m ≡ handed.Cloned x.0)
+  pub pair : x.0.pair ≡ pair_of x.1
+  pub added : adds (cloned_by cause x.1)

@@ -1,5 +1,5 @@
 -- How the crate's own media are seen, and what holds of the references that variables hold.
-use Rattle.std.specs.Prelude.{ℕ, ◌≡◌, ◌≢◌, ◌<◌, ◌≤◌, true, List, [], ◌∷◌, ◌++◌, length, map, slice_get, slice_set, Option, Some, None, IfSome, option_map, option_and_then}
+use Rattle.std.specs.Prelude.{ℕ, ◌≡◌, ◌≢◌, ◌<◌, ◌≤◌, true, List, [], ◌∷◌, ◌++◌, ◌⊎◌, length, map, slice_get, slice_set, Option, Some, None, IfSome, option_map, option_and_then}
 use Rattle.wc_base.specs.declared.who.By.{By}
 use Rattle.wc_base.specs.declared.who.Who.{Who}
 use Rattle.codec_model.specs.declared.entry.Pair.{Pair}
@@ -15,21 +15,50 @@ use Rattle.wc_pool.specs.declared.entry.PoolEntry.{PoolEntry}
 use Rattle.wc_pool.specs.declared.entry.PoolOp.TheVariants as op
 use Rattle.wc_pool.specs.declared.reference.MediaRef.{MediaRef}
 use Rattle.wc_pool.specs.Bag.{resource_of, references_made, is_held, is_legal_next, is_legal_pool}
+use Rattle.wc_pool.specs.Pools.{KeepsAll}
 use Rattle.script_types.specs.declared.steps.MediaStep.{MediaStep}
 use Rattle.media_variables.specs.declared.medium.Kind.{Kind}
 use Rattle.media_variables.specs.declared.medium.Kind.TheVariants as kind
 use Rattle.media_variables.specs.declared.lending.MediumFound.{MediumFound}
 use Rattle.media_variables.specs.declared.lending.MediumFound.TheVariants as found
-use Rattle.media_variables.specs.Variables.{Reference, Medium, SoundOf, PictureOf, Came, Brought, Lendable, chunk_medium, lendable_in, handed_of, medium_at, variables_of, media_came, entries_of, is_last_of}
+use Rattle.media_variables.specs.Variables.{Reference, Shape, SoundOf, PictureOf, ChunkOf, Medium, Media, Came, Brought, Lendable, next_numbers, lendable_in, handed_of, medium_at, variables_of, media_came, entries_of, is_last_of}
 
--- without the key of a pool
+-- without the key and the token of a pool
 abbrev pub reference_of : MediaRef → Reference
 reference_of r = record { resource = r.resource; number = r.number; bytes = r.bytes }
 
-abbrev pub medium_of : Kind → Medium
-medium_of (kind.Audio s) = record { shape = SoundOf s.shape; held = option_map reference_of s.held }
-medium_of (kind.Frame f) = record { shape = PictureOf f.shape; held = option_map reference_of f.held }
-medium_of (kind.Chunk c) = chunk_medium c
+-- a medium with all of its reference
+pub record WholeMedium : Type 0 where
+  pub shape : Shape
+  pub held : Option MediaRef
+
+abbrev pub whole_of : Kind → WholeMedium
+whole_of (kind.Audio s) = record { shape = SoundOf s.shape; held = s.held }
+whole_of (kind.Frame f) = record { shape = PictureOf f.shape; held = f.held }
+whole_of (kind.Chunk c) = record { shape = ChunkOf c; held = None }
+
+-- as steps see it
+abbrev pub seen : WholeMedium → Medium
+seen m = record { shape = m.shape; held = option_map reference_of m.held }
+
+-- and all variables of a caller
+abbrev pub seen_in : List (Option WholeMedium) → List (Option Medium)
+seen_in vs = map (λ v. option_map seen v) vs
+
+-- all callers' variables, and the history of their pool
+abbrev pub media_of : List (List (Option WholeMedium)) → List PoolEntry → Media
+media_of callers history = record { variables = map seen_in callers; pool = history }
+
+abbrev pub without_reference : WholeMedium → WholeMedium
+without_reference m = record m { held = None }
+
+-- the whole reference that a variable holds
+abbrev pub whole_held : Option WholeMedium → Option MediaRef
+whole_held v = option_and_then (λ m. m.held) v
+
+-- each reference that one caller's variables hold is of a pool
+pub record AreOf (is_of : MediaRef → Type 0) (vs : List (Option WholeMedium)) : Type 0 where
+  pub each : (j : ℕ) → IfSome (whole_held (medium_at vs j)) is_of
 
 -- the reference that a medium holds, and that a variable does
 abbrev pub held_by : Option Medium → Option Reference
@@ -42,13 +71,14 @@ reference_at callers k j = held_by (medium_at (variables_of k callers) j)
 abbrev pub IsLiveIn : List PoolEntry → Reference → Type 0
 IsLiveIn pool r = resource_of r.number pool ≡ Some r.resource
 
--- a variable's reference is live, if it holds one
-abbrev pub IsHeldIn : List PoolEntry → Option Reference → Type 0
-IsHeldIn pool held = IfSome held (IsLiveIn pool)
+-- no two of one caller's variables hold a reference of one number
+pub record AreOnce (vs : List (Option Medium)) : Type 0 where
+  pub once : (i j : ℕ) (r q : Reference) → held_by (medium_at vs i) ≡ Some r → held_by (medium_at vs j) ≡ Some q → r.number ≡ q.number → i ≡ j
 
--- each reference of one caller's variables is live
-pub record AreLive (pool : List PoolEntry) (vs : List (Option Medium)) : Type 0 where
-  pub live : (j : ℕ) → IsHeldIn pool (held_by (medium_at vs j))
+-- What is held after a step is of the pool, where no two variables held one reference before it, or where the pool keeps each
+-- that it had.
+abbrev pub StayOf : (MediaRef → Type 0) → (MediaRef → Type 0) → List (Option WholeMedium) → List (Option WholeMedium) → Type 0
+StayOf was now vs after = (AreOnce (seen_in vs) ⊎ KeepsAll was now) → AreOf now after
 
 -- each reference that a variable holds is live, and no other variable holds it
 pub record AreHeld (pool : List PoolEntry) (callers : List (List (Option Medium))) : Type 0 where
@@ -87,8 +117,8 @@ lendable_sound s = record { shape = media_shape.Sound s.shape; held = option_map
 abbrev pub lendable_frame : Frame → Lendable
 lendable_frame f = record { shape = media_shape.Image f.shape; held = option_map reference_of f.held }
 
-abbrev pub lendable_of_variable : Option Medium → Option Lendable
-lendable_of_variable v = option_and_then lendable_in v
+abbrev pub lendable_of_variable : Option WholeMedium → Option Lendable
+lendable_of_variable v = option_and_then (λ m. lendable_in (seen m)) v
 
 abbrev pub found_by : Option Reference → MediumFound
 found_by None = found.Detached
@@ -112,14 +142,14 @@ pub record IsLent (cause : By) (pool new : List PoolEntry) (medium : Option Lend
 -- whatever a step on media comes to, the references that variables hold stay live and apart
 abbrev pub StayHeld : Type 0
 StayHeld = (pool : List PoolEntry) (who : Who) (callers : List (List (Option Medium))) (b : Brought) (x : MediaStep) (y : Came) →
-    is_legal_pool pool ≡ true → who.caller < length callers → AreHeld pool callers → media_came pool who b x (variables_of who.caller callers) ≡ Some y →
-    AreHeld (pool ++ entries_of who y.does) (slice_set callers who.caller y.variables)
+    is_legal_pool pool ≡ true → who.caller < length callers → AreHeld pool callers → media_came (next_numbers pool) who b x (variables_of who.caller callers) ≡ Some y →
+    AreHeld (pool ++ entries_of pool who y.does) (slice_set callers who.caller y.variables)
 
 -- and what it does to the pool is legal there
 abbrev pub DoLegally : Type 0
 DoLegally = (pool : List PoolEntry) (who : Who) (callers : List (List (Option Medium))) (b : Brought) (x : MediaStep) (y : Came) (e : PoolEntry) →
-    is_legal_pool pool ≡ true → AreHeld pool callers → media_came pool who b x (variables_of who.caller callers) ≡ Some y →
-    entries_of who y.does ≡ e ∷ [] → is_legal_next pool e ≡ true
+    is_legal_pool pool ≡ true → AreHeld pool callers → media_came (next_numbers pool) who b x (variables_of who.caller callers) ≡ Some y →
+    entries_of pool who y.does ≡ e ∷ [] → is_legal_next pool e ≡ true
 
 -- an output has at least the bytes that its shape needs
 abbrev pub IsEnoughUnit : output.Unit → Type 0

@@ -76,7 +76,7 @@ pub record Media : Type 0 where
   pub pool : List PoolEntry
 
 -- the medium of the variable that the step with this number defines; none where it is absent
-abbrev pub medium_at : List (Option Medium) → ℕ → Option Medium
+abbrev pub medium_at : {X : Type 0} → List (Option X) → ℕ → Option X
 medium_at vs j = option_and_then (λ v. v) (slice_get vs j)
 
 -- the variables of the caller with this number
@@ -86,7 +86,7 @@ variables_of zero (vs ∷ rest) = vs
 variables_of (suc k) (vs ∷ rest) = variables_of k rest
 
 -- the variable of the step with this number holds this medium; those before it that hold none are absent
-abbrev pub with_medium : ℕ → Medium → List (Option Medium) → List (Option Medium)
+abbrev pub with_medium : {X : Type 0} → ℕ → X → List (Option X) → List (Option X)
 with_medium zero m [] = Some m ∷ []
 with_medium zero m (v ∷ vs) = Some m ∷ vs
 with_medium (suc j) m [] = None ∷ with_medium j m []
@@ -97,7 +97,17 @@ detached m = record m { held = None }
 
 -- ---- what a step comes to
 
--- its answer, the caller's variables after it, and what it does to the pool, if it does something
+-- the numbers that the resource and the reference have which a step makes: those in the step's own entry
+pub record Numbers : Type 0 where
+  pub resource : ℕ
+  pub reference : ℕ
+
+-- those that are next in a pool
+abbrev pub next_numbers : List PoolEntry → Numbers
+next_numbers pool = record { resource = resources_made pool; reference = references_made pool }
+
+-- Its answer, the caller's variables after it, and what it does to the pool, if it does something. Whether an end was the last of
+-- its resource is not the step's to know.
 pub record Came : Type 0 where
   pub answer : StepResult
   pub variables : List (Option Medium)
@@ -110,33 +120,33 @@ abbrev pub refused : DomError → StepResult
 refused e = result.Local (Some e)
 
 -- a new resource with these bytes, and its first reference
-abbrev pub makes : List PoolEntry → ℕ → Shape → List ℕ → List (Option Medium) → Came
-makes pool j shape bytes vs = record {
+abbrev pub makes : Numbers → ℕ → Shape → List ℕ → List (Option Medium) → Came
+makes n j shape bytes vs = record {
   answer = result.Local None;
-  variables = with_medium j (record { shape = shape; held = Some (record { resource = resources_made pool; number = references_made pool; bytes = bytes }) }) vs;
-  does = Some (op.Make (resources_made pool) (references_made pool));
+  variables = with_medium j (record { shape = shape; held = Some (record { resource = n.resource; number = n.reference; bytes = bytes }) }) vs;
+  does = Some (op.Make n.resource n.reference);
 }
 
 -- without an init, which breaks a rule of WebIDL, or with an invalid one, nothing is made
-abbrev pub audio_came : List PoolEntry → ℕ → Option SoundInit → List (Option Medium) → Came
-audio_came pool j None vs = only_answers (refused dom.TypeErr) vs
-audio_came pool j (Some i) vs =
+abbrev pub audio_came : Numbers → ℕ → Option SoundInit → List (Option Medium) → Came
+audio_came n j None vs = only_answers (refused dom.TypeErr) vs
+audio_came n j (Some i) vs =
     if is_invalid i.shape (length i.content) then only_answers (refused dom.TypeErr) vs
-    else makes pool j (SoundOf i.shape) (take (needed i.shape) i.content) vs
+    else makes n j (SoundOf i.shape) (take (needed i.shape) i.content) vs
 
-abbrev pub frame_came : List PoolEntry → ℕ → Option PictureInit → List (Option Medium) → Came
-frame_came pool j None vs = only_answers (refused dom.TypeErr) vs
-frame_came pool j (Some i) vs =
+abbrev pub frame_came : Numbers → ℕ → Option PictureInit → List (Option Medium) → Came
+frame_came n j None vs = only_answers (refused dom.TypeErr) vs
+frame_came n j (Some i) vs =
     if frames.is_invalid i.shape (length i.content) then only_answers (refused dom.TypeErr) vs
-    else makes pool j (PictureOf i.shape) (take (picture_size i.shape) i.content) vs
+    else makes n j (PictureOf i.shape) (take (picture_size i.shape) i.content) vs
 
 -- one more reference to the resource that is held
-abbrev pub clone_held : List PoolEntry → ℕ → Shape → Option Reference → List (Option Medium) → Came
-clone_held pool j shape None vs = only_answers (refused dom.InvalidState) vs
-clone_held pool j shape (Some r) vs = record {
+abbrev pub clone_held : Numbers → ℕ → Shape → Option Reference → List (Option Medium) → Came
+clone_held n j shape None vs = only_answers (refused dom.InvalidState) vs
+clone_held n j shape (Some r) vs = record {
   answer = result.Local None;
-  variables = with_medium j (record { shape = shape; held = Some (record r { number = references_made pool }) }) vs;
-  does = Some (op.Clone r.resource (references_made pool));
+  variables = with_medium j (record { shape = shape; held = Some (record r { number = n.reference }) }) vs;
+  does = Some (op.Clone r.resource n.reference);
 }
 
 -- the reference is handed on
@@ -144,20 +154,13 @@ abbrev pub transfer_held : ℕ → ℕ → Medium → Option Reference → List 
 transfer_held j of m None vs = only_answers (refused dom.DataClone) vs
 transfer_held j of m (Some r) vs = only_answers (result.Local None) (with_medium j m (with_medium of (detached m) vs))
 
--- whether a reference that ends by this cause is the last one of its resource
-abbrev pub is_last_of : By → ℕ → ℕ → List PoolEntry → Bool
-is_last_of cause resource number pool = not (is_held resource (pool ++ record { by = cause; op = op.End resource number false } ∷ []))
-
-abbrev pub is_last : Who → Reference → List PoolEntry → Bool
-is_last who r pool = is_last_of (by.Caller who) r.resource r.number pool
-
 -- the reference ends
-abbrev pub close_held : List PoolEntry → Who → ℕ → Medium → Option Reference → List (Option Medium) → Came
-close_held pool who of m None vs = only_answers (result.Local None) vs
-close_held pool who of m (Some r) vs = record {
+abbrev pub close_held : ℕ → Medium → Option Reference → List (Option Medium) → Came
+close_held of m None vs = only_answers (result.Local None) vs
+close_held of m (Some r) vs = record {
   answer = result.Local None;
   variables = with_medium of (detached m) vs;
-  does = Some (op.End r.resource r.number (is_last who r pool));
+  does = Some (op.End r.resource r.number false);
 }
 
 -- what is absent makes the step absent
@@ -281,15 +284,15 @@ abbrev pub chunk_medium : Chunk → Medium
 chunk_medium chunk = record { shape = ChunkOf chunk; held = None }
 
 -- the bytes of audio data or of a frame are those of a new resource; a chunk stays in the variable itself
-abbrev pub unit_came : List PoolEntry → ℕ → StepResult → output.Unit → List (Option Medium) → Came
-unit_came pool j answer (unit.Sound s) vs = record (makes pool j (SoundOf s.shape) s.bytes vs) { answer = answer }
-unit_came pool j answer (unit.Image p) vs = record (makes pool j (PictureOf p.shape) p.bytes vs) { answer = answer }
-unit_came pool j answer (unit.Coded chunk config) vs = record { answer = answer; variables = with_medium j (chunk_medium chunk) vs; does = None }
+abbrev pub unit_came : Numbers → ℕ → StepResult → output.Unit → List (Option Medium) → Came
+unit_came n j answer (unit.Sound s) vs = record (makes n j (SoundOf s.shape) s.bytes vs) { answer = answer }
+unit_came n j answer (unit.Image p) vs = record (makes n j (PictureOf p.shape) p.bytes vs) { answer = answer }
+unit_came n j answer (unit.Coded chunk config) vs = record { answer = answer; variables = with_medium j (chunk_medium chunk) vs; does = None }
 
 -- where no output is taken, the step is none on media
-abbrev pub taken_came : List PoolEntry → ℕ → Option Taken → List (Option Medium) → Option Came
-taken_came pool j None vs = None
-taken_came pool j (Some t) vs = Some (unit_came pool j t.answer t.unit vs)
+abbrev pub taken_came : Numbers → ℕ → Option Taken → List (Option Medium) → Option Came
+taken_came n j None vs = None
+taken_came n j (Some t) vs = Some (unit_came n j t.answer t.unit vs)
 
 -- ---- what an encode is given
 
@@ -327,27 +330,49 @@ abbrev pub chunk_in : MediaStep → Option ℕ
 chunk_in (media.Copy of options.Nothing size) = Some of.step
 chunk_in _ = None
 
--- What a step on media comes to, after the pool's history and the caller's variables, with what is brought to it. A step that
--- encodes is the codec's.
-abbrev pub media_came : List PoolEntry → Who → Brought → MediaStep → List (Option Medium) → Option Came
-media_came pool who b (media.Audio bind init) vs = Some (audio_came pool who.step init vs)
-media_came pool who b (media.Frame bind init) vs = Some (frame_came pool who.step init vs)
-media_came pool who b (media.Encode on content) vs = None
-media_came pool who b (media.Take on bind kind) vs = taken_came pool who.step b.taken vs
-media_came pool who b (media.Clone of bind) vs = Some (if_there (medium_at vs of.step) vs (λ m. clone_held pool who.step m.shape m.held vs))
-media_came pool who b (media.Transfer of bind) vs = Some (if_there (medium_at vs of.step) vs (λ m. transfer_held who.step of.step m m.held vs))
-media_came pool who b (media.CloseData of) vs = Some (if_there (medium_at vs of.step) vs (λ m. close_held pool who of.step m m.held vs))
-media_came pool who b (media.Copy of o size) vs = Some (copy_came b.chunk of.step o size vs)
-media_came pool who b (media.Size of o) vs = Some (if_there (medium_at vs of.step) vs (λ m. only_answers (size_of_medium m o) vs))
+-- What a step on media comes to, after the caller's variables, with what is brought to it, and with these numbers for what it
+-- makes. A step that encodes is the codec's.
+abbrev pub media_came : Numbers → Who → Brought → MediaStep → List (Option Medium) → Option Came
+media_came n who b (media.Audio bind init) vs = Some (audio_came n who.step init vs)
+media_came n who b (media.Frame bind init) vs = Some (frame_came n who.step init vs)
+media_came n who b (media.Encode on content) vs = None
+media_came n who b (media.Take on bind kind) vs = taken_came n who.step b.taken vs
+media_came n who b (media.Clone of bind) vs = Some (if_there (medium_at vs of.step) vs (λ m. clone_held n who.step m.shape m.held vs))
+media_came n who b (media.Transfer of bind) vs = Some (if_there (medium_at vs of.step) vs (λ m. transfer_held who.step of.step m m.held vs))
+media_came n who b (media.CloseData of) vs = Some (if_there (medium_at vs of.step) vs (λ m. close_held of.step m m.held vs))
+media_came n who b (media.Copy of o size) vs = Some (copy_came b.chunk of.step o size vs)
+media_came n who b (media.Size of o) vs = Some (if_there (medium_at vs of.step) vs (λ m. only_answers (size_of_medium m o) vs))
 
--- the entry of a step, if it makes one
-abbrev pub entries_of : Who → Option PoolOp → List PoolEntry
-entries_of who None = []
-entries_of who (Some o) = record { by = by.Caller who; op = o } ∷ []
+-- ---- the entry behind a pool's history
+
+-- whether a reference that ends by this cause is the last one of its resource
+abbrev pub is_last_of : By → ℕ → ℕ → List PoolEntry → Bool
+is_last_of cause resource number pool = not (is_held resource (pool ++ record { by = cause; op = op.End resource number false } ∷ []))
+
+-- what is done, where an end says this of its resource
+abbrev pub with_last : Bool → PoolOp → PoolOp
+with_last last (op.Make r f) = op.Make r f
+with_last last (op.Clone r f) = op.Clone r f
+with_last last (op.End r f any) = op.End r f last
+
+-- an end says that it was the last of its resource where it is, behind this history
+abbrev pub flag_behind : By → List PoolEntry → PoolOp → Bool
+flag_behind cause pool (op.Make r f) = false
+flag_behind cause pool (op.Clone r f) = false
+flag_behind cause pool (op.End r f any) = is_last_of cause r f pool
+
+-- the entry of a step, with this flag
+abbrev pub entry_of : Who → Bool → PoolOp → PoolEntry
+entry_of who last o = record { by = by.Caller who; op = with_last last o }
+
+-- the entry behind a pool's history of what a step does, if it does something
+abbrev pub entries_of : List PoolEntry → Who → Option PoolOp → List PoolEntry
+entries_of pool who None = []
+entries_of pool who (Some o) = entry_of who (flag_behind (by.Caller who) pool o) o ∷ []
 
 -- all callers' variables and the pool's history after a step of a caller
 abbrev pub after_came : Who → Came → Media → Media
-after_came who c m = record { variables = slice_set m.variables who.caller c.variables; pool = m.pool ++ entries_of who c.does }
+after_came who c m = record { variables = slice_set m.variables who.caller c.variables; pool = m.pool ++ entries_of m.pool who c.does }
 
 -- a step answered, and came to this; one that is the codec's has no answer, and changed nothing
 abbrev pub IsCome : Media → Media → Who → Option Came → Option StepResult → Type 0
@@ -356,4 +381,4 @@ IsCome old new who (Some c) answer = (answer ≡ Some c.answer) × (new ≡ afte
 
 abbrev pub CameTo : Media → Media → Who → Brought → MediaStep → Option StepResult → Type 0
 CameTo old new who b step answer =
-    IsCome old new who (media_came old.pool who b step (variables_of who.caller old.variables)) answer
+    IsCome old new who (media_came (next_numbers old.pool) who b step (variables_of who.caller old.variables)) answer

@@ -1,20 +1,18 @@
 // The media of all callers.
 ghost use Rattle.std.specs.Prelude.{◌≡◌, ◌<◌, ◌++◌, [], ◌∷◌, true, None, Some, IfOk, OnErr};
-ghost use Rattle.std.specs.Prelude.{map, length, option_and_then};
+ghost use Rattle.std.specs.Prelude.{map, length, option_and_then, option_map, unwrap_or};
 ghost use Rattle.codec_model.specs.Held.{in_order};
 ghost use Rattle.wc_pool.specs.Bag.{held_in, is_legal_pool};
 ghost use Rattle.media_variables.specs.declared.lending.MediumFound.TheVariants as found;
-ghost use Rattle.media_variables.specs.Variables.{Brought, CameTo, IsCome, Media, Taken};
-ghost use Rattle.media_variables.specs.Variables.{media_came, taken_came, unit_came, variables_of};
+ghost use Rattle.media_variables.specs.Variables.{Brought, CameTo, IsCome, Taken, next_numbers};
+ghost use Rattle.media_variables.specs.Variables.{taken_came, variables_of};
 ghost use Rattle.media_variables.specs.Variables.{chunk_in_medium, medium_at, lendable_at};
-ghost use Rattle.media_variables.specs.Held.{AreHeld, AreLive, AreApart, IsEnoughUnit, IsLent};
-ghost use Rattle.media_variables.specs.Held.{ends_behind, pair_of, medium_found};
-ghost use Rattle.media_variables.specs.Given.{Comes, Reaches};
+ghost use Rattle.media_variables.specs.Held.{AreHeld, AreApart, IsEnoughUnit, IsLent};
+ghost use Rattle.media_variables.specs.Held.{ends_behind, media_of, medium_found, pair_of, seen_in};
 
+use crate::caller::Variables;
 use crate::ending::{end_each, end_if};
-use crate::lending::{MediumFound, lend_at};
-use crate::medium::Medium;
-use crate::steps::{chunk_at, find_medium, media_step, take_step};
+use crate::lending::MediumFound;
 use codec_definitions::Unit;
 use codec_model::HeldMedium;
 use report_text::StepResult;
@@ -25,21 +23,6 @@ use wc_base::{By, NoMemory, Who};
 use wc_chunk::Chunk;
 use wc_pool::{MediaRef, Pool, PoolEntry, references_are_apart};
 
-/// The variables of one caller, by the numbers of the steps that define them.
-#[derive(Drop)]
-struct Variables {
-    media: Vec<Option<Medium>>,
-}
-
-impl Model for Variables {
-    ghost use Rattle.std.specs.Prelude.{List, Option};
-    ghost use Rattle.media_variables.specs.Variables.{Medium};
-
-    ghost Value = { List (Option Medium) };
-
-    ghost view = { λ v. v.media.items };
-}
-
 /// The variables of all callers that hold media, and the pool of their references. A contract sees what
 /// each variable holds, and the pool's history.
 #[derive(Drop)]
@@ -49,18 +32,20 @@ pub struct CallerMedia {
 }
 
 impl Model for CallerMedia {
+    ghost use Rattle.std.specs.Prelude.{map};
     ghost use Rattle.media_variables.specs.Variables.{Media};
-    ghost use Rattle.media_variables.specs.Held.{AreHeld};
+    ghost use Rattle.media_variables.specs.Held.{AreHeld, seen_in};
 
     ghost Value = { Media };
 
-    ghost view = { λ m. record { variables = m.callers.items; pool = m.pool } };
+    ghost view = { λ m. record { variables = map seen_in m.callers.items; pool = m.pool } };
 
-    ghost invariant = { λ m. AreHeld m.pool m.callers.items };
+    ghost invariant = { λ m. AreHeld m.pool (map seen_in m.callers.items) };
 }
 
 impl CallerMedia {
     /// No variable holds a medium, and the pool has made nothing.
+    #[tactic(auto, using(crate::proofs::HeldLaws::none_seen))]
     pub fn open(alloc: Global, callers: &[CallerItem]) -> Result<CallerMedia, NoMemory>
         ensures { IfOk result
             (λ m. m ≡ record { variables = map (λ c. []) callers.now; pool = [] }) }
@@ -97,7 +82,8 @@ impl CallerMedia {
         requires enough { IsEnoughUnit unit }
         ensures came { let taken : Taken = record { unit = unit; answer = answer } in
             let vs = variables_of who.caller self.old.variables in
-            let came = taken_came self.old.pool who.step (Some taken) vs in
+            let numbers = next_numbers self.old.pool in
+            let came = taken_came numbers who.step (Some taken) vs in
             IfOk result (λ r. IsCome self.old self.new who came (Some r)) }
         ensures err { OnErr result (self.new ≡ self.old) }
     {
@@ -109,8 +95,8 @@ impl CallerMedia {
         ensures { let vs = variables_of caller self.now.variables in
             IfOk result (λ o. o ≡ option_and_then chunk_in_medium (medium_at vs variable)) }
     {
-        match chunk_at(variables_of(self.callers.as_slice(), caller), variable) {
-            Some(chunk) => Ok(Some(chunk.copy()?)),
+        match caller_at(self.callers.as_slice(), caller) {
+            Some(variables) => variables.chunk(variable),
             None => Ok(None),
         }
     }
@@ -120,7 +106,10 @@ impl CallerMedia {
         ensures { let vs = variables_of caller self.now.variables in
             result ≡ medium_found (lendable_at vs variable) }
     {
-        find_medium(variables_of(self.callers.as_slice(), caller), variable)
+        match caller_at(self.callers.as_slice(), caller) {
+            Some(variables) => variables.find_medium(variable),
+            None => MediumFound::Absent,
+        }
     }
 
     /// One more reference to the open medium of a variable, for a codec, with its shape and bytes: what an
@@ -180,19 +169,18 @@ impl CallerMedia {
 fn no_variables(alloc: Global, callers: &[CallerItem]) -> Result<Vec<Variables>, NoMemory>
     ensures { IfOk result (λ v. v.items ≡ map (λ c. []) callers.now) }
 {
-    let all = callers.iter().map(|_| Variables {
-        media: Vec::new(alloc),
-    });
+    let all = callers.iter().map(|_| Variables::new(alloc));
     Ok(all.collect(alloc)?)
 }
 
 /// The variables of a caller; none of one that is not there.
-fn variables_of(callers: &[Variables], caller: u32) -> &[Option<Medium>]
-    ensures { result.now ≡ variables_of caller callers.now }
+fn caller_at(callers: &[Variables], caller: u32) -> Option<&Variables>
+    ensures { variables_of caller (map seen_in callers.now)
+        ≡ unwrap_or (option_map (λ v. seen_in v.now) result) [] }
 {
     match callers.get(caller as usize) {
-        Some(variables) => variables.media.as_slice(),
-        None => &[],
+        Some(variables) => Some(variables),
+        None => None,
     }
 }
 
@@ -206,14 +194,14 @@ fn caller_step(
     step: &MediaStep,
 ) -> Result<Option<StepResult>, NoMemory>
     requires there { who.caller < length callers.old.items }
-    requires held { AreHeld pool.old callers.old.items }
-    ensures came { let old : Media = record { variables = callers.old.items; pool = pool.old } in
-        let new : Media = record { variables = callers.new.items; pool = pool.new } in
-        let b : Brought = record { chunk = chunk.now; taken = None } in
-        IfOk result (CameTo old new who b step.now) }
+    requires held { AreHeld pool.old (map seen_in callers.old.items) }
+    ensures came { let b : Brought = record { chunk = chunk.now; taken = None } in
+        let old = media_of callers.old.items pool.old in
+        IfOk result (CameTo old (media_of callers.new.items pool.new) who b step.now) }
     ensures pool { OnErr result (pool.new ≡ pool.old) }
-    ensures callers { OnErr result (callers.new.items ≡ callers.old.items) }
-    ensures held { AreHeld pool.new callers.new.items }
+    ensures callers { OnErr result
+        (map seen_in callers.new.items ≡ map seen_in callers.old.items) }
+    ensures held { AreHeld pool.new (map seen_in callers.new.items) }
 {
     references_are_apart();
     let _legal = pool.entries().len();
@@ -232,17 +220,18 @@ fn caller_take(
     answer: StepResult,
 ) -> Result<StepResult, NoMemory>
     requires there { who.caller < length callers.old.items }
-    requires held { AreHeld pool.old callers.old.items }
+    requires held { AreHeld pool.old (map seen_in callers.old.items) }
     requires enough { IsEnoughUnit unit }
-    ensures came { let old : Media = record { variables = callers.old.items; pool = pool.old } in
-        let new : Media = record { variables = callers.new.items; pool = pool.new } in
-        let taken : Taken = record { unit = unit; answer = answer } in
-        let vs = variables_of who.caller callers.old.items in
-        let came = taken_came pool.old who.step (Some taken) vs in
+    ensures came { let taken : Taken = record { unit = unit; answer = answer } in
+        let old = media_of callers.old.items pool.old in
+        let vs = variables_of who.caller old.variables in
+        let came = taken_came (next_numbers pool.old) who.step (Some taken) vs in
+        let new = media_of callers.new.items pool.new in
         IfOk result (λ r. IsCome old new who came (Some r)) }
     ensures pool { OnErr result (pool.new ≡ pool.old) }
-    ensures callers { OnErr result (callers.new.items ≡ callers.old.items) }
-    ensures held { AreHeld pool.new callers.new.items }
+    ensures callers { OnErr result
+        (map seen_in callers.new.items ≡ map seen_in callers.old.items) }
+    ensures held { AreHeld pool.new (map seen_in callers.new.items) }
 {
     references_are_apart();
     let _legal = pool.entries().len();
@@ -261,75 +250,21 @@ fn caller_lend(
     caller: u32,
     variable: u32,
 ) -> Result<(HeldMedium, MediaRef), NoMemory>
-    requires open { let vs = variables_of caller callers.old.items in
+    requires open { let vs = variables_of caller (map seen_in callers.old.items) in
         medium_found (lendable_at vs variable) ≡ found.Open }
-    requires held { AreHeld pool.old callers.old.items }
-    ensures ok { let vs = variables_of caller callers.old.items in
+    requires held { AreHeld pool.old (map seen_in callers.old.items) }
+    ensures ok { let vs = variables_of caller (map seen_in callers.old.items) in
         IfOk result (IsLent by pool.old pool.new (lendable_at vs variable)) }
     ensures apart { IfOk result
-        (λ x. AreApart pool.new callers.new.items (pair_of x.1 ∷ [])) }
-    ensures same { callers.new.items ≡ callers.old.items }
+        (λ x. AreApart pool.new (map seen_in callers.new.items) (pair_of x.1 ∷ [])) }
+    ensures same { map seen_in callers.new.items ≡ map seen_in callers.old.items }
     ensures err { OnErr result (pool.new ≡ pool.old) }
-    ensures held { AreHeld pool.new callers.new.items }
+    ensures held { AreHeld pool.new (map seen_in callers.new.items) }
 {
     references_are_apart();
     let _legal = pool.entries().len();
     match callers.get_mut(caller as usize) {
         Some(variables) => variables.lend(pool, by, variable),
         None => unreachable!(),
-    }
-}
-
-impl Variables {
-    /// A step of the caller.
-    fn step(
-        &mut self,
-        alloc: Global,
-        pool: &mut Pool,
-        who: Who,
-        chunk: &Option<Chunk>,
-        step: &MediaStep,
-    ) -> Result<Option<StepResult>, NoMemory>
-        requires { AreLive pool.old self.old }
-        ensures ok { let b : Brought = record { chunk = chunk.now; taken = None } in
-            let came = media_came pool.old who b step.now self.old in
-            IfOk result (Reaches who pool.old pool.new self.old self.new came) }
-        ensures pool { OnErr result (pool.new ≡ pool.old) }
-        ensures variables { OnErr result (self.new ≡ self.old) }
-    {
-        media_step(alloc, pool, who, chunk, step, &mut self.media)
-    }
-
-    /// A step of the caller that takes an output.
-    fn take(
-        &mut self,
-        pool: &mut Pool,
-        who: Who,
-        unit: Unit,
-        answer: StepResult,
-    ) -> Result<StepResult, NoMemory>
-        requires { IsEnoughUnit unit }
-        ensures ok { let came = unit_came pool.old who.step answer unit self.old in
-            IfOk result (Comes who pool.old pool.new self.new came) }
-        ensures pool { OnErr result (pool.new ≡ pool.old) }
-        ensures variables { OnErr result (self.new ≡ self.old) }
-    {
-        take_step(pool, who, unit, answer, &mut self.media)
-    }
-
-    /// One more reference to the open medium of a variable, with its shape and bytes.
-    fn lend(
-        &mut self,
-        pool: &mut Pool,
-        by: By,
-        variable: u32,
-    ) -> Result<(HeldMedium, MediaRef), NoMemory>
-        requires open { medium_found (lendable_at self.old variable) ≡ found.Open }
-        requires live { AreLive pool.old self.old }
-        ensures same { self.new ≡ self.old }
-        ensures ok { IfOk result (IsLent by pool.old pool.new (lendable_at self.old variable)) }
-        ensures err { OnErr result (pool.new ≡ pool.old) }
-    {
-        lend_at(&mut self.media, variable, pool, by)
     }
 }

@@ -7,6 +7,7 @@ ghost use Rattle.media_variables.specs.Variables.{zeros, format_of, copy_options
 ghost use Rattle.media_variables.specs.Variables.{copy_chunk, copy_sound, copy_frame, copy_medium};
 ghost use Rattle.media_variables.specs.Variables.{size_of_sound, size_of_frame, size_of_medium};
 ghost use Rattle.media_variables.specs.Variables.{planes_copied, size_found};
+ghost use Rattle.media_variables.specs.Held.{seen};
 
 use crate::given::refused;
 use crate::medium::{Kind, Medium};
@@ -218,7 +219,7 @@ pub(crate) fn copy_medium(
     options: &Options,
     size: u64,
 ) -> Result<StepResult, NoMemory>
-    ensures { IfOk result (λ r. r ≡ copy_medium medium.now options.now size) }
+    ensures { IfOk result (λ r. r ≡ copy_medium (seen medium.now) options.now size) }
 {
     match medium.kind() {
         Kind::Audio(audio) => copy_audio(alloc, audio, options, size),
@@ -233,7 +234,7 @@ pub(crate) fn size_of_medium(
     medium: &Medium,
     options: &Options,
 ) -> Result<StepResult, NoMemory>
-    ensures { IfOk result (λ r. r ≡ size_of_medium medium.now options.now) }
+    ensures { IfOk result (λ r. r ≡ size_of_medium (seen medium.now) options.now) }
 {
     match medium.kind() {
         Kind::Audio(audio) => Ok(size_of_audio(audio, options)),

@@ -2,7 +2,6 @@
 ghost use Rattle.std.specs.Prelude.{◌≡◌, None, Some};
 ghost use Rattle.report_text.specs.declared.result.StepResult.TheVariants as step_result;
 ghost use Rattle.media_variables.specs.Variables.{refused};
-ghost use Rattle.media_variables.specs.Given.{gives, gives_nothing};
 
 use crate::medium::Medium;
 use report_text::StepResult;
@@ -31,7 +30,7 @@ pub(crate) fn refused(error: DomError) -> StepResult
 
 /// The step's variable is to hold a medium.
 pub(crate) fn gives(medium: Medium) -> Given
-    ensures { result ≡ (gives medium None).given }
+    ensures { result ≡ record { answer = step_result.Local None; medium = Some medium } }
 {
     Given {
         answer: done(),
@@ -41,7 +40,7 @@ pub(crate) fn gives(medium: Medium) -> Given
 
 /// A step that is refused gives its variable nothing.
 pub(crate) fn gives_nothing(error: DomError) -> Given
-    ensures { result ≡ (gives_nothing (refused error)).given }
+    ensures { result ≡ record { answer = refused error; medium = None } }
 {
     Given {
         answer: refused(error),
@@ -51,7 +50,7 @@ pub(crate) fn gives_nothing(error: DomError) -> Given
 
 /// A step whose variable is absent gives nothing.
 pub(crate) fn absent() -> Given
-    ensures { result ≡ (gives_nothing step_result.Absent).given }
+    ensures { result ≡ record { answer = step_result.Absent; medium = None } }
 {
     Given {
         answer: StepResult::Absent,

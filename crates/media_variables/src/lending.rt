@@ -1,20 +1,23 @@
 // What a medium hands to a codec: its shape and bytes, with one reference more to its resource.
-ghost use Rattle.std.specs.Prelude.{◌≡◌, Some, true, is_some, IfOk, IfSome, OnErr};
-ghost use Rattle.wc_audio.specs.Sound.{IsHeldOf};
+ghost use Rattle.std.specs.Prelude.{◌≡◌, Some, true, is_some, IfOk, IfErr, IfSome, OnErr};
+ghost use Rattle.std.specs.Prelude.{option_map};
+ghost use Rattle.wc_audio.specs.Sound.{IsCloneBy, IsCloneFault, IsHeldOf};
 ghost use Rattle.wc_video.specs.Frames as frames;
-ghost use Rattle.wc_pool.specs.Pools.{IsLive, Adds, cloned_by};
+ghost use Rattle.wc_pool.specs.Pools.{KeepsAll, cloned_by};
 ghost use Rattle.media_variables.specs.declared.lending.MediumFound.TheVariants as found;
+ghost use Rattle.media_variables.specs.declared.medium.Kind.TheVariants as kind;
 ghost use Rattle.media_variables.specs.Variables.{lendable_at};
-ghost use Rattle.media_variables.specs.Held.{held_by, medium_found, lendable_of_variable};
+ghost use Rattle.media_variables.specs.Held.{AreOf, medium_found, lendable_of_variable};
 ghost use Rattle.media_variables.specs.Held.{lendable_frame, lendable_sound, pair_of};
-ghost use Rattle.media_variables.specs.Held.{AreLive, IsHeldIn, IsLent};
+ghost use Rattle.media_variables.specs.Held.{seen, seen_in, whole_held, whole_of};
+ghost use Rattle.media_variables.specs.Given.{Lends};
 
 use crate::medium::Medium;
 use bytes::Bytes;
 use codec_model::{HeldMedium, MediaShape, Pair};
 use wc_audio::AudioData;
 use wc_base::{By, NoMemory};
-use wc_pool::{MediaFault, MediaRef, Pool};
+use wc_pool::{MediaFault, MediaRef, RefPool};
 use wc_video::VideoFrame;
 
 /// What a variable holds of audio data or a frame: none, one that is detached, or one that is open.
@@ -69,18 +72,60 @@ fn frame_bytes(frame: &VideoFrame) -> Result<Bytes, NoMemory>
     }
 }
 
+/// Other audio data with one more reference to the same resource; this one is seen as it was.
+pub(crate) fn another_audio<P: RefPool>(
+    audio: &mut AudioData,
+    pool: &mut P,
+    by: By,
+) -> Result<AudioData, MediaFault>
+    requires { IsHeldOf (P.is_of pool.old) audio.old }
+    ensures same { seen (whole_of (kind.Audio audio.new)) ≡ seen (whole_of (kind.Audio audio.old)) }
+    ensures still { IsHeldOf (P.is_of pool.new) audio.new }
+    ensures ok { IfOk result (IsCloneBy (P.adds pool.old pool.new) by audio.old) }
+    ensures of { IfOk result (IsHeldOf (P.is_of pool.new)) }
+    ensures err { let same = pool.new ≡ pool.old in
+        IfErr result (IsCloneFault audio.old same (P.stays pool.old pool.new)) }
+    ensures kept { KeepsAll (P.is_of pool.old) (P.is_of pool.new) }
+{
+    audio.clone_data(pool, by)
+}
+
+/// Another frame with one more reference to the same resource; this one is seen as it was.
+pub(crate) fn another_frame<P: RefPool>(
+    frame: &mut VideoFrame,
+    pool: &mut P,
+    by: By,
+) -> Result<VideoFrame, MediaFault>
+    requires { frames.IsHeldOf (P.is_of pool.old) frame.old }
+    ensures same { seen (whole_of (kind.Frame frame.new)) ≡ seen (whole_of (kind.Frame frame.old)) }
+    ensures still { frames.IsHeldOf (P.is_of pool.new) frame.new }
+    ensures ok { IfOk result (frames.IsCloneBy (P.adds pool.old pool.new) by frame.old) }
+    ensures of { IfOk result (frames.IsHeldOf (P.is_of pool.new)) }
+    ensures err { let same = pool.new ≡ pool.old in
+        IfErr result (frames.IsCloneFault frame.old same (P.stays pool.old pool.new)) }
+    ensures kept { KeepsAll (P.is_of pool.old) (P.is_of pool.new) }
+{
+    frame.clone_frame(pool, by)
+}
+
 /// One more reference to the resource of open audio data.
-#[tactic(auto, using(crate::proofs::Whole::same_sound))]
-fn clone_sound(audio: &mut AudioData, pool: &mut Pool, by: By) -> Result<MediaRef, NoMemory>
+fn clone_sound<P: RefPool>(
+    audio: &mut AudioData,
+    pool: &mut P,
+    by: By,
+) -> Result<MediaRef, NoMemory>
     requires open { is_some audio.old.held ≡ true }
-    requires live { IsHeldOf (IsLive pool.old) audio.old }
-    ensures same { audio.new ≡ audio.old }
+    requires held { IsHeldOf (P.is_of pool.old) audio.old }
+    ensures same { seen (whole_of (kind.Audio audio.new)) ≡ seen (whole_of (kind.Audio audio.old)) }
+    ensures still { IsHeldOf (P.is_of pool.new) audio.new }
     ensures clone { IfOk result
         (λ r. IfSome audio.old.held (λ was. r.resource ≡ was.resource)) }
-    ensures added { IfOk result (λ r. Adds pool.old pool.new (cloned_by by r)) }
-    ensures err { OnErr result (pool.new ≡ pool.old) }
+    ensures added { IfOk result (λ r. P.adds pool.old pool.new (cloned_by by r)) }
+    ensures of { IfOk result (P.is_of pool.new) }
+    ensures err { OnErr result (P.stays pool.old pool.new) }
+    ensures kept { KeepsAll (P.is_of pool.old) (P.is_of pool.new) }
 {
-    match audio.clone_data(pool, by) {
+    match another_audio(audio, pool, by) {
         Ok(clone) => match clone.into_reference() {
             Some(r) => Ok(r),
             None => unreachable!(),
@@ -91,17 +136,23 @@ fn clone_sound(audio: &mut AudioData, pool: &mut Pool, by: By) -> Result<MediaRe
 }
 
 /// One more reference to the resource of an open frame.
-#[tactic(auto, using(crate::proofs::Whole::same_frame))]
-fn clone_frame(frame: &mut VideoFrame, pool: &mut Pool, by: By) -> Result<MediaRef, NoMemory>
+fn clone_frame<P: RefPool>(
+    frame: &mut VideoFrame,
+    pool: &mut P,
+    by: By,
+) -> Result<MediaRef, NoMemory>
     requires open { is_some frame.old.held ≡ true }
-    requires live { frames.IsHeldOf (IsLive pool.old) frame.old }
-    ensures same { frame.new ≡ frame.old }
+    requires held { frames.IsHeldOf (P.is_of pool.old) frame.old }
+    ensures same { seen (whole_of (kind.Frame frame.new)) ≡ seen (whole_of (kind.Frame frame.old)) }
+    ensures still { frames.IsHeldOf (P.is_of pool.new) frame.new }
     ensures clone { IfOk result
         (λ r. IfSome frame.old.held (λ was. r.resource ≡ was.resource)) }
-    ensures added { IfOk result (λ r. Adds pool.old pool.new (cloned_by by r)) }
-    ensures err { OnErr result (pool.new ≡ pool.old) }
+    ensures added { IfOk result (λ r. P.adds pool.old pool.new (cloned_by by r)) }
+    ensures of { IfOk result (P.is_of pool.new) }
+    ensures err { OnErr result (P.stays pool.old pool.new) }
+    ensures kept { KeepsAll (P.is_of pool.old) (P.is_of pool.new) }
 {
-    match frame.clone_frame(pool, by) {
+    match another_frame(frame, pool, by) {
         Ok(clone) => match clone.into_reference() {
             Some(r) => Ok(r),
             None => unreachable!(),
@@ -124,17 +175,20 @@ fn held_medium(shape: MediaShape, bytes: Bytes, r: MediaRef) -> (HeldMedium, Med
 }
 
 /// One more reference to the resource of open audio data, with its shape and bytes.
-pub(crate) fn lend_sound(
+pub(crate) fn lend_sound<P: RefPool>(
     audio: &mut AudioData,
-    pool: &mut Pool,
+    pool: &mut P,
     by: By,
 ) -> Result<(HeldMedium, MediaRef), NoMemory>
     requires open { is_some audio.old.held ≡ true }
-    requires live { IsHeldOf (IsLive pool.old) audio.old }
-    ensures same { audio.new ≡ audio.old }
-    ensures ok { let medium = Some (lendable_sound audio.old) in
-        IfOk result (IsLent by pool.old pool.new medium) }
-    ensures err { OnErr result (pool.new ≡ pool.old) }
+    requires held { IsHeldOf (P.is_of pool.old) audio.old }
+    ensures same { seen (whole_of (kind.Audio audio.new)) ≡ seen (whole_of (kind.Audio audio.old)) }
+    ensures still { IsHeldOf (P.is_of pool.new) audio.new }
+    ensures lent { let medium = Some (lendable_sound audio.old) in
+        IfOk result (Lends (P.adds pool.old pool.new) by medium) }
+    ensures of { IfOk result (λ x. P.is_of pool.new x.1) }
+    ensures err { OnErr result (P.stays pool.old pool.new) }
+    ensures kept { KeepsAll (P.is_of pool.old) (P.is_of pool.new) }
 {
     let bytes = sound_bytes(audio)?;
     let shape = MediaShape::Sound(*audio.shape());
@@ -143,17 +197,20 @@ pub(crate) fn lend_sound(
 }
 
 /// One more reference to the resource of an open frame, with its shape and bytes.
-pub(crate) fn lend_frame(
+pub(crate) fn lend_frame<P: RefPool>(
     frame: &mut VideoFrame,
-    pool: &mut Pool,
+    pool: &mut P,
     by: By,
 ) -> Result<(HeldMedium, MediaRef), NoMemory>
     requires open { is_some frame.old.held ≡ true }
-    requires live { frames.IsHeldOf (IsLive pool.old) frame.old }
-    ensures same { frame.new ≡ frame.old }
-    ensures ok { let medium = Some (lendable_frame frame.old) in
-        IfOk result (IsLent by pool.old pool.new medium) }
-    ensures err { OnErr result (pool.new ≡ pool.old) }
+    requires held { frames.IsHeldOf (P.is_of pool.old) frame.old }
+    ensures same { seen (whole_of (kind.Frame frame.new)) ≡ seen (whole_of (kind.Frame frame.old)) }
+    ensures still { frames.IsHeldOf (P.is_of pool.new) frame.new }
+    ensures lent { let medium = Some (lendable_frame frame.old) in
+        IfOk result (Lends (P.adds pool.old pool.new) by medium) }
+    ensures of { IfOk result (λ x. P.is_of pool.new x.1) }
+    ensures err { OnErr result (P.stays pool.old pool.new) }
+    ensures kept { KeepsAll (P.is_of pool.old) (P.is_of pool.new) }
 {
     let bytes = frame_bytes(frame)?;
     let shape = MediaShape::Image(*frame.shape());
@@ -161,16 +218,20 @@ pub(crate) fn lend_frame(
     Ok(held_medium(shape, bytes, r))
 }
 
-fn lend_variable(
+fn lend_variable<P: RefPool>(
     variable: &mut Option<Medium>,
-    pool: &mut Pool,
+    pool: &mut P,
     by: By,
 ) -> Result<(HeldMedium, MediaRef), NoMemory>
     requires open { medium_found (lendable_of_variable variable.old) ≡ found.Open }
-    requires held { IsHeldIn pool.old (held_by variable.old) }
-    ensures same { variable.new ≡ variable.old }
-    ensures ok { IfOk result (IsLent by pool.old pool.new (lendable_of_variable variable.old)) }
-    ensures err { OnErr result (pool.new ≡ pool.old) }
+    requires held { IfSome (whole_held variable.old) (P.is_of pool.old) }
+    ensures same { option_map seen variable.new ≡ option_map seen variable.old }
+    ensures still { IfSome (whole_held variable.new) (P.is_of pool.new) }
+    ensures lent { IfOk result
+        (Lends (P.adds pool.old pool.new) by (lendable_of_variable variable.old)) }
+    ensures of { IfOk result (λ x. P.is_of pool.new x.1) }
+    ensures err { OnErr result (P.stays pool.old pool.new) }
+    ensures kept { KeepsAll (P.is_of pool.old) (P.is_of pool.new) }
 {
     match variable {
         Some(medium) => medium.lend(pool, by),
@@ -179,17 +240,21 @@ fn lend_variable(
 }
 
 /// One more reference to the open medium of a variable, with its shape and bytes.
-pub(crate) fn lend_at(
+pub(crate) fn lend_at<P: RefPool>(
     variables: &mut Vec<Option<Medium>>,
     of: u32,
-    pool: &mut Pool,
+    pool: &mut P,
     by: By,
 ) -> Result<(HeldMedium, MediaRef), NoMemory>
-    requires open { medium_found (lendable_at variables.old.items of) ≡ found.Open }
-    requires live { AreLive pool.old variables.old.items }
-    ensures same { variables.new.items ≡ variables.old.items }
-    ensures ok { IfOk result (IsLent by pool.old pool.new (lendable_at variables.old.items of)) }
-    ensures err { OnErr result (pool.new ≡ pool.old) }
+    requires open { let vs = seen_in variables.old.items in
+        medium_found (lendable_at vs of) ≡ found.Open }
+    requires held { AreOf (P.is_of pool.old) variables.old.items }
+    ensures same { seen_in variables.new.items ≡ seen_in variables.old.items }
+    ensures still { AreOf (P.is_of pool.new) variables.new.items }
+    ensures lent { let medium = lendable_at (seen_in variables.old.items) of in
+        IfOk result (Lends (P.adds pool.old pool.new) by medium) }
+    ensures of { IfOk result (λ x. P.is_of pool.new x.1) }
+    ensures err { OnErr result (P.stays pool.old pool.new) }
 {
     match variables.get_mut(of as usize) {
         Some(variable) => lend_variable(variable, pool, by),

@@ -1,6 +1,7 @@
 //! The media that callers' variables hold: audio data, video frames and chunks, with the pool of their references.
 #![tactic(auto)]
 
+mod caller;
 mod callers;
 mod copies;
 mod ending;
@@ -11,6 +12,7 @@ mod medium;
 mod steps;
 mod variables;
 
+pub use caller::Variables;
 pub use callers::CallerMedia;
 pub use laws::references_stay_held;
 pub use lending::MediumFound;

@@ -1,20 +1,26 @@
 // A medium that a variable holds: audio data, a video frame or a chunk.
-ghost use Rattle.std.specs.Prelude.{◌≡◌, ◌++◌, Option, Some, None, IfOk, OnErr, option_map};
+ghost use Rattle.std.specs.Prelude.{◌≡◌, ◌≤◌, Option, Some, None, IfOk, IfSome, OnErr};
+ghost use Rattle.std.specs.Prelude.{length, option_map};
 ghost use Rattle.wc_base.specs.declared.who.By.TheVariants as by;
-ghost use Rattle.wc_audio.specs.Sound.{IsHeldOf};
+ghost use Rattle.codec_definitions.specs.declared.unit.Unit.TheVariants as unit;
+ghost use Rattle.picture_planes.specs.Planes.{picture_size};
+ghost use Rattle.wc_audio.specs.Sound.{IsHeldOf, KeepsButHeld, needed};
 ghost use Rattle.wc_video.specs.Frames as frames;
-ghost use Rattle.wc_pool.specs.Pools.{IsLive};
+ghost use Rattle.wc_pool.specs.Pools.{KeepsAll};
 ghost use Rattle.media_variables.specs.declared.medium.Kind.TheVariants as kind;
 ghost use Rattle.media_variables.specs.declared.lending.MediumFound.{MediumFound};
 ghost use Rattle.media_variables.specs.declared.lending.MediumFound.TheVariants as found;
-ghost use Rattle.media_variables.specs.Variables.{detached, chunk_in_medium, lendable_in};
-ghost use Rattle.media_variables.specs.Held.{medium_of, medium_found, IsEnoughUnit, IsHeldIn, IsLent};
-ghost use Rattle.media_variables.specs.Given.{Does, audio_done, frame_done, clone_done};
-ghost use Rattle.media_variables.specs.Given.{taken_done, transfer_done, closed_op};
-ghost use Rattle.media_variables.specs.Variables.{entries_of};
+ghost use Rattle.media_variables.specs.Variables.{chunk_in_medium, lendable_in};
+ghost use Rattle.media_variables.specs.Held.{medium_found, reference_of, seen, whole_of};
+ghost use Rattle.media_variables.specs.Held.{without_reference, IsEnoughUnit};
+ghost use Rattle.media_variables.specs.Given.{Does, Gives, IsGivenOf, Lends};
+ghost use Rattle.media_variables.specs.Given.{audio_done, frame_done};
+ghost use Rattle.media_variables.specs.Given.{clone_done, closed_op, taken_done, transferred};
 
 use crate::given::{Given, gives, gives_nothing};
-use crate::lending::{MediumFound, find_frame, find_sound, lend_frame, lend_sound};
+use crate::lending::{
+    MediumFound, another_audio, another_frame, find_frame, find_sound, lend_frame, lend_sound,
+};
 use codec_definitions::Unit;
 use codec_model::HeldMedium;
 use report_text::StepResult;
@@ -22,9 +28,9 @@ use script_types::{PictureInit, SoundInit};
 use std::alloc::Global;
 use std::marker::Model;
 use wc_audio::AudioData;
-use wc_base::{By, DomError, NoMemory, Who};
+use wc_base::{By, DomError, NoMemory, Picture, Samples, Who};
 use wc_chunk::Chunk;
-use wc_pool::{MediaFault, MediaRef, Pool};
+use wc_pool::{MediaFault, MediaRef, RefPool};
 use wc_video::VideoFrame;
 
 /// What kind of medium it is.
@@ -35,32 +41,32 @@ pub(crate) enum Kind {
     Chunk(Chunk),
 }
 
-/// A medium. A contract sees its shape, and the reference that it holds, without the place where the pool
-/// looks for it.
+/// A medium. A contract sees its shape, and all of the reference that it holds.
 #[derive(Drop)]
 pub(crate) struct Medium {
     kind: Kind,
 }
 
 impl Model for Medium {
-    ghost use Rattle.media_variables.specs.Variables as spec;
+    ghost use Rattle.media_variables.specs.Held.{WholeMedium, whole_of};
 
-    ghost Value = { spec.Medium };
+    ghost Value = { WholeMedium };
 
-    ghost use Rattle.media_variables.specs.Held.{medium_of};
-
-    ghost view = { λ m. medium_of m.kind };
+    ghost view = { λ m. whole_of m.kind };
 }
 
 /// Audio data of an init; without one, or with an invalid one, it is refused.
-pub(crate) fn make_audio(
+pub(crate) fn make_audio<P: RefPool>(
     alloc: Global,
-    pool: &mut Pool,
+    pool: &mut P,
     who: Who,
     init: &Option<SoundInit>,
 ) -> Result<Given, NoMemory>
-    ensures ok { IfOk result (Does who pool.old pool.new (audio_done pool.old init.now)) }
-    ensures err { OnErr result (pool.new ≡ pool.old) }
+    ensures ok { let adds = P.adds pool.old pool.new in let same = pool.new ≡ pool.old in
+        IfOk result (Gives adds same who (audio_done init.now)) }
+    ensures of { IfOk result (IsGivenOf (P.is_of pool.new)) }
+    ensures err { OnErr result (P.stays pool.old pool.new) }
+    ensures kept { KeepsAll (P.is_of pool.old) (P.is_of pool.new) }
 {
     let Some(i) = init else {
         return Ok(gives_nothing(DomError::TypeErr));
@@ -76,14 +82,17 @@ pub(crate) fn make_audio(
 }
 
 /// A video frame of an init; without one, or with an invalid one, it is refused.
-pub(crate) fn make_frame(
+pub(crate) fn make_frame<P: RefPool>(
     alloc: Global,
-    pool: &mut Pool,
+    pool: &mut P,
     who: Who,
     init: &Option<PictureInit>,
 ) -> Result<Given, NoMemory>
-    ensures ok { IfOk result (Does who pool.old pool.new (frame_done pool.old init.now)) }
-    ensures err { OnErr result (pool.new ≡ pool.old) }
+    ensures ok { let adds = P.adds pool.old pool.new in let same = pool.new ≡ pool.old in
+        IfOk result (Gives adds same who (frame_done init.now)) }
+    ensures of { IfOk result (IsGivenOf (P.is_of pool.new)) }
+    ensures err { OnErr result (P.stays pool.old pool.new) }
+    ensures kept { KeepsAll (P.is_of pool.old) (P.is_of pool.new) }
 {
     let Some(i) = init else {
         return Ok(gives_nothing(DomError::TypeErr));
@@ -98,47 +107,100 @@ pub(crate) fn make_frame(
     }
 }
 
+/// Audio data with the samples of an output.
+fn take_samples<P: RefPool>(
+    pool: &mut P,
+    who: Who,
+    samples: Samples,
+    answer: StepResult,
+) -> Result<Given, NoMemory>
+    requires { needed samples.shape ≤ length samples.bytes }
+    ensures ok { let adds = P.adds pool.old pool.new in let same = pool.new ≡ pool.old in
+        IfOk result (Gives adds same who (taken_done answer (unit.Sound samples))) }
+    ensures of { IfOk result (IsGivenOf (P.is_of pool.new)) }
+    ensures err { OnErr result (P.stays pool.old pool.new) }
+    ensures kept { KeepsAll (P.is_of pool.old) (P.is_of pool.new) }
+{
+    let audio = AudioData::of_samples(samples, pool, By::Caller(who))?;
+    Ok(Given {
+        answer,
+        medium: Some(Medium {
+            kind: Kind::Audio(audio),
+        }),
+    })
+}
+
+/// A video frame with the picture of an output.
+fn take_picture<P: RefPool>(
+    pool: &mut P,
+    who: Who,
+    picture: Picture,
+    answer: StepResult,
+) -> Result<Given, NoMemory>
+    requires { picture_size picture.shape ≤ length picture.bytes }
+    ensures ok { let adds = P.adds pool.old pool.new in let same = pool.new ≡ pool.old in
+        IfOk result (Gives adds same who (taken_done answer (unit.Image picture))) }
+    ensures of { IfOk result (IsGivenOf (P.is_of pool.new)) }
+    ensures err { OnErr result (P.stays pool.old pool.new) }
+    ensures kept { KeepsAll (P.is_of pool.old) (P.is_of pool.new) }
+{
+    let frame = VideoFrame::of_picture(picture, pool, By::Caller(who))?;
+    Ok(Given {
+        answer,
+        medium: Some(Medium {
+            kind: Kind::Frame(frame),
+        }),
+    })
+}
+
+/// The chunk of an output, as it is.
+fn take_chunk(chunk: Chunk, answer: StepResult) -> Given
+    ensures { result ≡ record { answer = answer; medium = Some (whole_of (kind.Chunk chunk)) } }
+{
+    Given {
+        answer,
+        medium: Some(Medium {
+            kind: Kind::Chunk(chunk),
+        }),
+    }
+}
+
 /// Audio data or a video frame with the bytes of an output, or the output itself where it is a chunk.
-pub(crate) fn make_taken(
-    pool: &mut Pool,
+pub(crate) fn make_taken<P: RefPool>(
+    pool: &mut P,
     who: Who,
     unit: Unit,
     answer: StepResult,
 ) -> Result<Given, NoMemory>
     requires { IsEnoughUnit unit }
-    ensures ok { IfOk result (Does who pool.old pool.new (taken_done pool.old answer unit)) }
-    ensures err { OnErr result (pool.new ≡ pool.old) }
+    ensures ok { let adds = P.adds pool.old pool.new in let same = pool.new ≡ pool.old in
+        IfOk result (Gives adds same who (taken_done answer unit)) }
+    ensures of { IfOk result (IsGivenOf (P.is_of pool.new)) }
+    ensures err { OnErr result (P.stays pool.old pool.new) }
+    ensures kept { KeepsAll (P.is_of pool.old) (P.is_of pool.new) }
 {
-    let by = By::Caller(who);
-    let medium = match unit {
-        Unit::Sound(samples) => Medium {
-            kind: Kind::Audio(AudioData::of_samples(samples, pool, by)?),
-        },
-        Unit::Image(picture) => Medium {
-            kind: Kind::Frame(VideoFrame::of_picture(picture, pool, by)?),
-        },
+    match unit {
+        Unit::Sound(samples) => take_samples(pool, who, samples, answer),
+        Unit::Image(picture) => take_picture(pool, who, picture, answer),
         Unit::Coded {
             chunk,
             config: _config,
-        } => Medium {
-            kind: Kind::Chunk(chunk),
-        },
-    };
-    Ok(Given {
-        answer,
-        medium: Some(medium),
-    })
+        } => Ok(take_chunk(chunk, answer)),
+    }
 }
 
-#[tactic(auto, using(crate::proofs::Whole::same_sound))]
-fn clone_audio(audio: &mut AudioData, pool: &mut Pool, who: Who) -> Result<Given, NoMemory>
-    requires { IsHeldOf (IsLive pool.old) audio.old }
-    ensures same { audio.new ≡ audio.old }
-    ensures ok { let medium = medium_of (kind.Audio audio.old) in
-        IfOk result (Does who pool.old pool.new (clone_done pool.old (Some medium))) }
-    ensures err { OnErr result (pool.new ≡ pool.old) }
+fn clone_audio<P: RefPool>(audio: &mut AudioData, pool: &mut P, who: Who) -> Result<Given, NoMemory>
+    requires { IsHeldOf (P.is_of pool.old) audio.old }
+    ensures same { seen (whole_of (kind.Audio audio.new)) ≡ seen (whole_of (kind.Audio audio.old)) }
+    ensures still { IsHeldOf (P.is_of pool.new) audio.new }
+    ensures ok { let adds = P.adds pool.old pool.new in let same = pool.new ≡ pool.old in
+        let medium = seen (whole_of (kind.Audio audio.old)) in
+        IfOk result (Gives adds same who (clone_done (Some medium))) }
+    ensures of { IfOk result (IsGivenOf (P.is_of pool.new)) }
+    ensures err { OnErr result (P.stays pool.old pool.new) }
+    ensures kept { KeepsAll (P.is_of pool.old) (P.is_of pool.new) }
 {
-    match audio.clone_data(pool, By::Caller(who)) {
+    match another_audio(audio, pool, By::Caller(who)) {
         Ok(clone) => Ok(gives(Medium {
             kind: Kind::Audio(clone),
         })),
@@ -147,15 +209,22 @@ fn clone_audio(audio: &mut AudioData, pool: &mut Pool, who: Who) -> Result<Given
     }
 }
 
-#[tactic(auto, using(crate::proofs::Whole::same_frame))]
-fn clone_frame(frame: &mut VideoFrame, pool: &mut Pool, who: Who) -> Result<Given, NoMemory>
-    requires { frames.IsHeldOf (IsLive pool.old) frame.old }
-    ensures same { frame.new ≡ frame.old }
-    ensures ok { let medium = medium_of (kind.Frame frame.old) in
-        IfOk result (Does who pool.old pool.new (clone_done pool.old (Some medium))) }
-    ensures err { OnErr result (pool.new ≡ pool.old) }
+fn clone_frame<P: RefPool>(
+    frame: &mut VideoFrame,
+    pool: &mut P,
+    who: Who,
+) -> Result<Given, NoMemory>
+    requires { frames.IsHeldOf (P.is_of pool.old) frame.old }
+    ensures same { seen (whole_of (kind.Frame frame.new)) ≡ seen (whole_of (kind.Frame frame.old)) }
+    ensures still { frames.IsHeldOf (P.is_of pool.new) frame.new }
+    ensures ok { let adds = P.adds pool.old pool.new in let same = pool.new ≡ pool.old in
+        let medium = seen (whole_of (kind.Frame frame.old)) in
+        IfOk result (Gives adds same who (clone_done (Some medium))) }
+    ensures of { IfOk result (IsGivenOf (P.is_of pool.new)) }
+    ensures err { OnErr result (P.stays pool.old pool.new) }
+    ensures kept { KeepsAll (P.is_of pool.old) (P.is_of pool.new) }
 {
-    match frame.clone_frame(pool, By::Caller(who)) {
+    match another_frame(frame, pool, By::Caller(who)) {
         Ok(clone) => Ok(gives(Medium {
             kind: Kind::Frame(clone),
         })),
@@ -166,7 +235,7 @@ fn clone_frame(frame: &mut VideoFrame, pool: &mut Pool, who: Who) -> Result<Give
 
 fn transfer_audio(audio: &mut AudioData) -> Given
     ensures detached { audio.new ≡ record audio.old { held = None } }
-    ensures given { result ≡ (transfer_done (Some (medium_of (kind.Audio audio.old)))).given }
+    ensures given { result ≡ transferred (whole_of (kind.Audio audio.old)) audio.old.held }
 {
     match audio.transfer() {
         Ok(audio) => gives(Medium {
@@ -178,7 +247,7 @@ fn transfer_audio(audio: &mut AudioData) -> Given
 
 fn transfer_frame(frame: &mut VideoFrame) -> Given
     ensures detached { frame.new ≡ record frame.old { held = None } }
-    ensures given { result ≡ (transfer_done (Some (medium_of (kind.Frame frame.old)))).given }
+    ensures given { result ≡ transferred (whole_of (kind.Frame frame.old)) frame.old.held }
 {
     match frame.transfer() {
         Ok(frame) => gives(Medium {
@@ -188,32 +257,42 @@ fn transfer_frame(frame: &mut VideoFrame) -> Given
     }
 }
 
-fn close_audio(audio: &mut AudioData, pool: &mut Pool, who: Who)
-    requires { IsHeldOf (IsLive pool.old) audio.old }
+fn close_audio<P: RefPool>(audio: &mut AudioData, pool: &mut P, who: Who)
+    requires { IsHeldOf (P.is_of pool.old) audio.old }
     ensures detached { audio.new ≡ record audio.old { held = None } }
-    ensures history { let held = (medium_of (kind.Audio audio.old)).held in
-        pool.new ≡ pool.old ++ entries_of who (closed_op pool.old who held) }
+    ensures does { let held = option_map reference_of audio.old.held in
+        Does (P.adds pool.old pool.new) (pool.new ≡ pool.old) who (closed_op held) }
+    ensures kept { KeepsButHeld audio.old.held (P.is_of pool.old) (P.is_of pool.new) }
 {
     audio.close_data(pool, By::Caller(who));
 }
 
-fn close_frame(frame: &mut VideoFrame, pool: &mut Pool, who: Who)
-    requires { frames.IsHeldOf (IsLive pool.old) frame.old }
+fn close_frame<P: RefPool>(frame: &mut VideoFrame, pool: &mut P, who: Who)
+    requires { frames.IsHeldOf (P.is_of pool.old) frame.old }
     ensures detached { frame.new ≡ record frame.old { held = None } }
-    ensures history { let held = (medium_of (kind.Frame frame.old)).held in
-        pool.new ≡ pool.old ++ entries_of who (closed_op pool.old who held) }
+    ensures does { let held = option_map reference_of frame.old.held in
+        Does (P.adds pool.old pool.new) (pool.new ≡ pool.old) who (closed_op held) }
+    ensures kept { KeepsButHeld frame.old.held (P.is_of pool.old) (P.is_of pool.new) }
 {
     frame.close_frame(pool, By::Caller(who));
 }
 
 impl Medium {
     /// One more reference to the resource that is held; a detached medium is refused.
-    pub(crate) fn clone_medium(&mut self, pool: &mut Pool, who: Who) -> Result<Given, NoMemory>
-        requires { IsHeldIn pool.old self.old.held }
-        ensures same { self.new ≡ self.old }
-        ensures ok { IfOk result
-            (Does who pool.old pool.new (clone_done pool.old (Some self.old))) }
-        ensures err { OnErr result (pool.new ≡ pool.old) }
+    #[tactic(auto, using(crate::proofs::Made::not_cloned))]
+    pub(crate) fn clone_medium<P: RefPool>(
+        &mut self,
+        pool: &mut P,
+        who: Who,
+    ) -> Result<Given, NoMemory>
+        requires { IfSome self.old.held (P.is_of pool.old) }
+        ensures same { seen self.new ≡ seen self.old }
+        ensures still { IfSome self.new.held (P.is_of pool.new) }
+        ensures ok { let adds = P.adds pool.old pool.new in let same = pool.new ≡ pool.old in
+            IfOk result (Gives adds same who (clone_done (Some (seen self.old)))) }
+        ensures of { IfOk result (IsGivenOf (P.is_of pool.new)) }
+        ensures err { OnErr result (P.stays pool.old pool.new) }
+        ensures kept { KeepsAll (P.is_of pool.old) (P.is_of pool.new) }
     {
         match &mut self.kind {
             Kind::Audio(audio) => clone_audio(audio, pool, who),
@@ -224,8 +303,8 @@ impl Medium {
 
     /// The reference is handed on; a detached medium is refused.
     pub(crate) fn transfer(&mut self) -> Given
-        ensures detached { self.new ≡ detached self.old }
-        ensures given { result ≡ (transfer_done (Some self.old)).given }
+        ensures detached { self.new ≡ without_reference self.old }
+        ensures given { result ≡ transferred self.old self.old.held }
     {
         match &mut self.kind {
             Kind::Audio(audio) => transfer_audio(audio),
@@ -235,11 +314,12 @@ impl Medium {
     }
 
     /// The reference ends, if one is held.
-    pub(crate) fn close(&mut self, pool: &mut Pool, who: Who)
-        requires { IsHeldIn pool.old self.old.held }
-        ensures detached { self.new ≡ detached self.old }
-        ensures history { pool.new
-            ≡ pool.old ++ entries_of who (closed_op pool.old who self.old.held) }
+    pub(crate) fn close<P: RefPool>(&mut self, pool: &mut P, who: Who)
+        requires { IfSome self.old.held (P.is_of pool.old) }
+        ensures detached { self.new ≡ without_reference self.old }
+        ensures does { let held = option_map reference_of self.old.held in
+            Does (P.adds pool.old pool.new) (pool.new ≡ pool.old) who (closed_op held) }
+        ensures kept { KeepsButHeld self.old.held (P.is_of pool.old) (P.is_of pool.new) }
     {
         match &mut self.kind {
             Kind::Audio(audio) => close_audio(audio, pool, who),
@@ -249,16 +329,20 @@ impl Medium {
     }
 
     /// One more reference to the resource of an open medium, for a codec, with its shape and bytes.
-    pub(crate) fn lend(
+    pub(crate) fn lend<P: RefPool>(
         &mut self,
-        pool: &mut Pool,
+        pool: &mut P,
         by: By,
     ) -> Result<(HeldMedium, MediaRef), NoMemory>
-        requires open { medium_found (lendable_in self.old) ≡ found.Open }
-        requires held { IsHeldIn pool.old self.old.held }
-        ensures same { self.new ≡ self.old }
-        ensures ok { IfOk result (IsLent by pool.old pool.new (lendable_in self.old)) }
-        ensures err { OnErr result (pool.new ≡ pool.old) }
+        requires open { medium_found (lendable_in (seen self.old)) ≡ found.Open }
+        requires held { IfSome self.old.held (P.is_of pool.old) }
+        ensures same { seen self.new ≡ seen self.old }
+        ensures still { IfSome self.new.held (P.is_of pool.new) }
+        ensures lent { IfOk result
+            (Lends (P.adds pool.old pool.new) by (lendable_in (seen self.old))) }
+        ensures of { IfOk result (λ x. P.is_of pool.new x.1) }
+        ensures err { OnErr result (P.stays pool.old pool.new) }
+        ensures kept { KeepsAll (P.is_of pool.old) (P.is_of pool.new) }
     {
         match &mut self.kind {
             Kind::Audio(audio) => lend_sound(audio, pool, by),
@@ -269,7 +353,7 @@ impl Medium {
 
     /// Whether it is audio data or a frame, and whether that is open.
     pub(crate) fn find(&self) -> MediumFound
-        ensures { result ≡ medium_found (lendable_in self.now) }
+        ensures { result ≡ medium_found (lendable_in (seen self.now)) }
     {
         match &self.kind {
             Kind::Audio(audio) => find_sound(audio),
@@ -280,7 +364,7 @@ impl Medium {
 
     /// The chunk that it is, if it is one.
     pub(crate) fn chunk(&self) -> Option<&Chunk>
-        ensures { option_map (λ c. c.now) result ≡ chunk_in_medium self.now }
+        ensures { option_map (λ c. c.now) result ≡ chunk_in_medium (seen self.now) }
     {
         match &self.kind {
             Kind::Audio(_) => None,
@@ -290,7 +374,7 @@ impl Medium {
     }
 
     pub(crate) fn kind(&self) -> &Kind
-        ensures { medium_of result.now ≡ self.now }
+        ensures { whole_of result.now ≡ self.now }
     {
         &self.kind
     }

@@ -3,14 +3,13 @@ use Rattle.std.proofs.Common.{ℕ, ◌≡◌, List, [], Option, Some, None, Resu
 use Rattle.std.specs.Prelude.{unwrap_or, option_map}
 use Rattle.wc_base.specs.declared.{error.DomError.DomError, who.Who.Who}
 use Rattle.wc_chunk.specs.{declared.chunk.Chunk.Chunk, Copied.copied_count, Copied.copied_to}
-use Rattle.wc_pool.specs.declared.entry.PoolEntry.{PoolEntry}
 use Rattle.wc_audio.specs.Copies.{copied_audio, allocation_size}
 use Rattle.wc_video.specs.{Frames.content_of, Layouts.size_of, Layouts.layouts_of}
 use Rattle.wc_video.specs.Copies as video
 use Rattle.codec_accounts.specs.Calls as mark
 use Rattle.script_types.specs.declared.{script.ScriptData.ScriptData, options.Options.Options, steps.MediaStep.MediaStep, steps.Step.Step}
 use Rattle.report_text.specs.declared.result.StepResult.{StepResult}
-use Rattle.media_variables.specs.Variables.{Reference, Shape, SoundOf, PictureOf, Medium, Came, zeros, sound_of, frame_of, copy_options, rect_of, layouts_in, audio_copied, frame_copied, planes_copied, chunk_copied, size_found, copy_chunk, copy_medium, size_of_medium, chunk_of_variable, media_came}
+use Rattle.media_variables.specs.Variables.{Reference, Shape, SoundOf, PictureOf, Medium, Numbers, Came, zeros, sound_of, frame_of, copy_options, rect_of, layouts_in, audio_copied, frame_copied, planes_copied, chunk_copied, size_found, copy_chunk, copy_medium, size_of_medium, chunk_of_variable, media_came}
 use Rattle.media_variables.specs.CameLaws.{by_came}
 use Rattle.trace_text.specs.Follow.{Recorded}
 use Rattle.order_laws.proofs.Grown.{IsFound, brought}
@@ -29,11 +28,11 @@ pub record OwnFacts (s : ScriptData) (files : List (List Chunk)) (w : Recorded) 
   pub took : taken_by s w (Some r) ≡ None
 
 -- a step on media answers what it comes to
-pub own_facts : (s : ScriptData) (files : List (List Chunk)) (w : Recorded) (pool : List PoolEntry) (who : Who) (chunk : Option Chunk) (before vs : List (Option Medium)) (y : Came) (c : ℕ) (x : MediaStep) (r : StepResult)
-    → media_came pool who (brought chunk None) x vs ≡ Some y → IsOwn r → r ≡ y.answer → OwnFacts s files w who before y c x r
-own_facts s files w pool who chunk before vs y c x (StepResult.Call k place error) comes own same = absurd cc
-own_facts s files w pool who chunk before vs y c (MediaStep.CloseData of) r comes own same = search rules
-own_facts s files w pool who chunk before vs y c x r comes own same = search rules
+pub own_facts : (s : ScriptData) (files : List (List Chunk)) (w : Recorded) (n : Numbers) (who : Who) (chunk : Option Chunk) (before vs : List (Option Medium)) (y : Came) (c : ℕ) (x : MediaStep) (r : StepResult)
+    → media_came n who (brought chunk None) x vs ≡ Some y → IsOwn r → r ≡ y.answer → OwnFacts s files w who before y c x r
+own_facts s files w n who chunk before vs y c x (StepResult.Call k place error) comes own same = absurd cc
+own_facts s files w n who chunk before vs y c (MediaStep.CloseData of) r comes own same = search rules
+own_facts s files w n who chunk before vs y c x r comes own same = search rules
 
 -- ---- copies and sizes
 
@@ -63,8 +62,8 @@ size_own shape held o = refl
 -- ---- every step
 
 -- where no output is brought to it
-pub media_own : (pool : List PoolEntry) (who : Who) (chunk : Option Chunk) (x : MediaStep) (vs : List (Option Medium)) (y : Came) → media_came pool who (brought chunk None) x vs ≡ Some y → IsOwn y.answer
-media_own pool who chunk x vs y = by_came pool who (brought chunk None) vs (λ z came. IsOwn came.answer) (record {
+pub media_own : (n : Numbers) (who : Who) (chunk : Option Chunk) (x : MediaStep) (vs : List (Option Medium)) (y : Came) → media_came n who (brought chunk None) x vs ≡ Some y → IsOwn y.answer
+media_own n who chunk x vs y = by_came n who (brought chunk None) vs (λ z came. IsOwn came.answer) (record {
   refuses = λ z e. refl;
   absent = λ z. refl;
   audio = λ bind i. refl;

@@ -31,7 +31,7 @@ use Rattle.script_types.specs.declared.{script.OrderItem.OrderItem, script.Scrip
 use Rattle.report_text.specs.declared.result.StepResult.{StepResult}
 use Rattle.trace_text.specs.Report.{refusal_in}
 use Rattle.media_variables.specs.Held.{held_by}
-use Rattle.media_variables.specs.Variables.{Reference, Shape, SoundOf, PictureOf, ChunkOf, Medium, Media, Came, Brought, Lendable, medium_at, lendable_in, lendable_at, handed_by, media_came, taken_came, unit_came, variables_of}
+use Rattle.media_variables.specs.Variables.{Reference, Shape, SoundOf, PictureOf, ChunkOf, Medium, Media, Numbers, Came, Brought, Lendable, medium_at, lendable_in, lendable_at, handed_by, next_numbers, media_came, taken_came, unit_came, variables_of}
 use Rattle.media_accounts.specs.Accounts.{media_of, OneMore, IsQuiet, MediaStand, StepStands, NothingStands, StepsStand, OthersStand, LaterStand, LaterStands, EntryStands, EntriesStand}
 use Rattle.trace_text.specs.Follow.{Recorded, Course, record_of, opening_at, promise_after, steps_of, chunk_for, source_error, output_at, with_result, with_entry, Move, Answer, Ask, Handle, Receive, after_move, follow_item, handle_move, take_move, copied_chunk, outcome_for, end_of, turn_on, item_entry, advance, call_move, encode_of, result_of, look_of_state, step_move, next_move}
 use Rattle.trace_text.specs.Fits.{result_in, entry_in, step_in, exception_at, mark_of, marks_of, taken_by, brought_to, made_steps, came_at, variables_at, IsResultOf, LookShows, IsLocalAnswer, HasArguments, ArgumentsAreIn, MarksClimb}
@@ -168,9 +168,9 @@ no_look : (s : ScriptData) (media : List (List Chunk)) (w : Recorded) (c k p : �
 no_look s media w c k p (Step.Media (MediaStep.Encode on content)) error h = (refl, tt, λ vs o. tt)
 no_look s media w c k p x error h = search rules
 
-unit_answer : (pool : List PoolEntry) (j : ℕ) (r : StepResult) (u : output.Unit) (vs : List (Option Medium)) → (unit_came pool j r u vs).answer ≡ r
-unit_answer pool j r (unit.Sound samples) vs = refl
-unit_answer pool j r u vs = refl
+unit_answer : (numbers : Numbers) (j : ℕ) (r : StepResult) (u : output.Unit) (vs : List (Option Medium)) → (unit_came numbers j r u vs).answer ≡ r
+unit_answer numbers j r (unit.Sound samples) vs = refl
+unit_answer numbers j r u vs = refl
 
 -- the caller's next step
 abbrev IsNext : ScriptData → Course → ℕ → Step → Type 0
@@ -350,7 +350,7 @@ module _ (laws : MediaLaws) (s : ScriptData) (media : List (List Chunk)) (made :
         result_stands r v.media marked later.same (fits (same_before u c later.same)) (laws.others _ _ _ _ _ _ _ c later.stands (one_more v u c r refl caller) quiet)
 
     -- of a step on media, to which no output is brought
-    handled_stands : (x : MediaStep) (y : Came) → step_in s c (length (at c v.callers)) ≡ Some (Step.Media x) → media_came v.media.pool (next_who v c) (brought (copied_chunk media (steps_of s c) x) None) x (variables_of c v.media.variables) ≡ Some y
+    handled_stands : (x : MediaStep) (y : Came) → step_in s c (length (at c v.callers)) ≡ Some (Step.Media x) → media_came (next_numbers v.media.pool) (next_who v c) (brought (copied_chunk media (steps_of s c) x) None) x (variables_of c v.media.variables) ≡ Some y
         → Stands s media made (after_move (Handle (next_who v c) y) v)
     handled_stands x y is_step comes =
         let u = after_move (Handle (next_who v c) y) v in
@@ -358,8 +358,8 @@ module _ (laws : MediaLaws) (s : ScriptData) (media : List (List Chunk)) (made :
         let r = y.answer in
         let chunk = copied_chunk media (steps_of s c) x in
         let vs = variables_at s media w c (length (at c v.callers)) in
-        let own : IsOwn r = media_own v.media.pool (next_who v c) chunk x (variables_of c v.media.variables) y comes in
-        let facts = own_facts s media w v.media.pool (next_who v c) chunk vs (variables_of c v.media.variables) y c x r comes own refl in
+        let own : IsOwn r = media_own (next_numbers v.media.pool) (next_who v c) chunk x (variables_of c v.media.variables) y comes in
+        let facts = own_facts s media w (next_numbers v.media.pool) (next_who v c) chunk vs (variables_of c v.media.variables) y c x r comes own refl in
         let none : taken_by s w (result_in w c (length (at c v.callers))) ≡ None = ap (taken_by s w) (result_new c r v.callers caller) ∙ facts.took in
         let later = later_stands u (result_grows v c r u.media) in
         let told : StepStands (steps_of s) (brought_to s media w) (lending_of s v.codecs) (made_steps (record_of v)) (made_steps w) (length s.callers) v.media c y =
@@ -456,7 +456,7 @@ module _ (laws : MediaLaws) (s : ScriptData) (media : List (List Chunk)) (made :
   -- a take of the output with this number, which was shown: all but its caller's media are as after a call
   received_stands : (c k n : ℕ) (y : Came) (bind : List ℕ) (holds : VariableKind) (t : State) (o : output.Unit) → let x = MediaStep.Take k bind holds in c < length v.callers → k < length v.codecs → step_in s c (length (at c v.callers)) ≡ Some (Step.Media x)
       → entry_step (Entry.Call (next_who v c) (Call.Take n)) (state_of (codec_at k v.codecs)) ≡ Some t → output_at (opening_at s k) (at k (histories v.codecs)) n ≡ Some o
-      → media_came v.media.pool (next_who v c) (brought None (Some (taken_as (take_result v k n) o))) x (variables_of c v.media.variables) ≡ Some y → Stands s media made (after_move (Receive (next_who v c) k n y) v)
+      → media_came (next_numbers v.media.pool) (next_who v c) (brought None (Some (taken_as (take_result v k n) o))) x (variables_of c v.media.variables) ≡ Some y → Stands s media made (after_move (Receive (next_who v c) k n y) v)
   received_stands c k n y bind holds t o caller codec is_step steps there comes =
       let e = Entry.Call (next_who v c) (Call.Take n) in
       let x = MediaStep.Take k bind holds in
@@ -464,7 +464,7 @@ module _ (laws : MediaLaws) (s : ScriptData) (media : List (List Chunk)) (made :
       let w = record_of u in
       let r = take_result v k n in
       let vs = variables_of c v.media.variables in
-      let answers : y.answer ≡ r = ap (λ (z : Came). z.answer) (sym (some_same (unit_came v.media.pool (length (at c v.callers)) r o vs) y comes)) ∙ unit_answer v.media.pool (length (at c v.callers)) r o vs in
+      let answers : y.answer ≡ r = ap (λ (z : Came). z.answer) (sym (some_same (unit_came (next_numbers v.media.pool) (length (at c v.callers)) r o vs) y comes)) ∙ unit_answer (next_numbers v.media.pool) (length (at c v.callers)) r o vs in
       let grows = both_grow v c k e y.answer u.media in
       let shown : output_at (opening_at s k) (at k (histories u.codecs)) n ≡ Some o = output_stays s (record_of v) w grows k n o there in
       let stood : entry_in w k (next_place v k) ≡ Some e = rw (this_history v k e codec, sym (history_there v k)) (get_end (at k (histories v.codecs)) e) in
@@ -527,12 +527,12 @@ module _ (laws : MediaLaws) (s : ScriptData) (media : List (List Chunk)) (made :
     look_shows promise r k p error was = (p, error, result_kept c c promise.step r (StepResult.Call k p error) v.callers was, all_there (λ o h. promise_after o h p) s media made v k st)
 
     -- a step on media, to which no output is brought
-    handles : (x : MediaStep) (o : Option Came) → IsNext s v c (Step.Media x) → media_came v.media.pool (next_who v c) (brought (copied_chunk media (steps_of s c) x) None) x (variables_of c v.media.variables) ≡ o → After (handle_move (next_who v c) o)
+    handles : (x : MediaStep) (o : Option Came) → IsNext s v c (Step.Media x) → media_came (next_numbers v.media.pool) (next_who v c) (brought (copied_chunk media (steps_of s c) x) None) x (variables_of c v.media.variables) ≡ o → After (handle_move (next_who v c) o)
     handles x None is comes = st
     handles x (Some y) is comes = handled_stands c (caller_there (Step.Media x) is) x y is comes
 
     takes : (k : ℕ) (bind : List ℕ) (holds : VariableKind) (o : Option output.Unit) → IsNext s v c (Step.Media (MediaStep.Take k bind holds)) → output_at (codec_at k v.codecs).opening (codec_at k v.codecs).history (state_of (codec_at k v.codecs)).control.taken ≡ o
-        → After (take_move (next_who v c) k (codec_at k v.codecs) (taken_came v.media.pool (length (at c v.callers)) (option_map (taken_as (take_result v k (state_of (codec_at k v.codecs)).control.taken)) o) (variables_of c v.media.variables)))
+        → After (take_move (next_who v c) k (codec_at k v.codecs) (taken_came (next_numbers v.media.pool) (length (at c v.callers)) (option_map (taken_as (take_result v k (state_of (codec_at k v.codecs)).control.taken)) o) (variables_of c v.media.variables)))
     takes k bind holds None is none =
         let x = Step.Media (MediaStep.Take k bind holds) in
         let n = next_place v k in
@@ -585,7 +585,7 @@ module _ (laws : MediaLaws) (s : ScriptData) (media : List (List Chunk)) (made :
         (refl, all_there (λ o h. (state_after o h).control.phase) s media made v on st, all_there (λ o h. (state_after o h).control.size) s media made v on st) (λ o. tt) refl
     steps (Step.Media (MediaStep.Take on bind kind)) is = takes on bind kind (output_at (codec_at on v.codecs).opening (codec_at on v.codecs).history (state_of (codec_at on v.codecs)).control.taken) is refl
     steps (Step.Media (MediaStep.Encode on content)) is = encodes on content (lendable_at (variables_of c v.media.variables) content.step) is refl
-    steps (Step.Media x) is = handles x (media_came v.media.pool (next_who v c) (brought (copied_chunk media (steps_of s c) x) None) x (variables_of c v.media.variables)) is refl
+    steps (Step.Media x) is = handles x (media_came (next_numbers v.media.pool) (next_who v c) (brought (copied_chunk media (steps_of s c) x) None) x (variables_of c v.media.variables)) is refl
 
     next : (o : Option Step) → step_in s c (length (at c v.callers)) ≡ o → After (next_move s media (next_who v c) o v)
     next None is = st

@@ -6,13 +6,12 @@ use Rattle.std.proofs.lemmas.{Bool.eqb-true, Option.slice_get_within}
 use Rattle.wc_base.specs.declared.who.Who.{Who}
 use Rattle.wc_chunk.specs.declared.chunk.Chunk.{Chunk}
 use Rattle.codec_definitions.specs.declared.unit.Unit as output
-use Rattle.wc_pool.specs.declared.entry.PoolEntry.{PoolEntry}
 use Rattle.codec_accounts.specs.Owed.{at}
 use Rattle.script_types.specs.{declared.script.ScriptData.ScriptData, declared.steps.MediaStep.MediaStep, declared.steps.Step.Step, Names.taken_from}
 use Rattle.report_text.specs.declared.result.StepResult.{StepResult}
 use Rattle.media_variables.specs.CameLaws.{EachCame, by_came}
-use Rattle.media_variables.specs.Variables.{Reference, Shape, SoundOf, PictureOf, ChunkOf, Medium, Came, Brought, Lendable, medium_at, with_medium, detached, refused, unit_came, lendable_in, lendable_at, media_came}
-use Rattle.media_accounts.specs.Accounts.{step_by, before_step, media_of, variables_by}
+use Rattle.media_variables.specs.Variables.{Reference, Shape, SoundOf, PictureOf, ChunkOf, Medium, Numbers, Came, Brought, Lendable, medium_at, with_medium, detached, refused, unit_came, lendable_in, lendable_at, media_came}
+use Rattle.media_accounts.specs.Accounts.{step_by, numbers_of, ops_by, media_of, variables_by}
 use Rattle.trace_text.specs.Follow.{Recorded, steps_of}
 use Rattle.trace_text.specs.Fits.{LocalsAreIn, result_in, brought_to, variables_at}
 use Rattle.report_reader.specs.Arguments.{is_ok, gives, is_given, detached_in, is_named, is_detached}
@@ -65,7 +64,7 @@ moved_all given f n i vs m is new all j = grind (arith, with_at n m (with_medium
 ended_all : (given f : ℕ → Bool) (n i : ℕ) (vs : List (Option Medium)) (m : Medium) → medium_at vs i ≡ Some m → m.held ≡ None → AreAll given f n vs → AreAll given (more f (Some i)) (suc n) vs
 ended_all given f n i vs m is none all j = grind (arith, eqb-true i j, is, none, all j)
 
-unit_all : (p : List PoolEntry) (given f : ℕ → Bool) (n : ℕ) (vs : List (Option Medium)) (answer : StepResult) (u : output.Unit) → given n ≡ true → AreAll given f n vs → AreAll given (more f None) (suc n) (unit_came p n answer u vs).variables
+unit_all : (p : Numbers) (given f : ℕ → Bool) (n : ℕ) (vs : List (Option Medium)) (answer : StepResult) (u : output.Unit) → given n ≡ true → AreAll given f n vs → AreAll given (more f None) (suc n) (unit_came p n answer u vs).variables
 unit_all p given f n vs answer u gave all = grind (arith, new_all, gave, all)
 
 -- ---- every step
@@ -78,7 +77,7 @@ IsAnswered b x answer r = elim (taken_from (Step.Media x)) [ None ↦ r ≡ answ
 stays : (b : Brought) (x : MediaStep) (answer r : StepResult) → is_ok answer ≡ false → IsAnswered b x answer r → detached_in (Step.Media x) r ≡ None
 stays b x answer r fails k = grind (arith, fails, k)
 
-each_all : (p : List PoolEntry) (who : Who) (b : Brought) (given f : ℕ → Bool) (vs : List (Option Medium)) (r : StepResult) → given who.step ≡ gives r → AreAll given f who.step vs
+each_all : (p : Numbers) (who : Who) (b : Brought) (given f : ℕ → Bool) (vs : List (Option Medium)) (r : StepResult) → given who.step ≡ gives r → AreAll given f who.step vs
     → EachCame p who b vs (λ x y. IsAnswered b x y.answer r → AreAll given (more f (detached_in (Step.Media x) r)) (suc who.step) y.variables)
 each_all p who b given f vs r gave all = record {
   refuses = λ x e k. same_all given f _ who.step vs (stays b x (refused e) r refl k) all;
@@ -96,15 +95,15 @@ each_all p who b given f vs r gave all = record {
 }
 
 -- a step that comes to nothing here, as an encode or a take that found no output, detaches nothing
-came_all : (p : List PoolEntry) (who : Who) (b : Brought) (x : MediaStep) (given f : ℕ → Bool) (vs : List (Option Medium)) (r : StepResult) → given who.step ≡ gives r → ((y : Came) → media_came p who b x vs ≡ Some y → IsAnswered b x y.answer r) → AreAll given f who.step vs
+came_all : (p : Numbers) (who : Who) (b : Brought) (x : MediaStep) (given f : ℕ → Bool) (vs : List (Option Medium)) (r : StepResult) → given who.step ≡ gives r → ((y : Came) → media_came p who b x vs ≡ Some y → IsAnswered b x y.answer r) → AreAll given f who.step vs
     → (o : Option Came) → media_came p who b x vs ≡ o → AreAll given (more f (detached_in (Step.Media x) r)) (suc who.step) (variables_by o vs)
 came_all p who b x given f vs r gave a all o is = grind (arith, same_all given f None who.step vs refl all, by_came p who b vs _ (each_all p who b given f vs r gave all) x, is, a)
 
 -- what is known of a step that has this result
-abbrev HasResult : List PoolEntry → Who → (MediaStep → Brought) → Option Step → List (Option Medium) → StepResult → Type 0
+abbrev HasResult : Numbers → Who → (MediaStep → Brought) → Option Step → List (Option Medium) → StepResult → Type 0
 HasResult p who brings o vs r = (x : MediaStep) → o ≡ Some (Step.Media x) → (y : Came) → media_came p who (brings x) x vs ≡ Some y → IsAnswered (brings x) x y.answer r
 
-step_all : (p : List PoolEntry) (who : Who) (brings : MediaStep → Brought) (o : Option Step) (given f : ℕ → Bool) (vs : List (Option Medium)) (r : StepResult) → given who.step ≡ gives r → HasResult p who brings o vs r → AreAll given f who.step vs
+step_all : (p : Numbers) (who : Who) (brings : MediaStep → Brought) (o : Option Step) (given f : ℕ → Bool) (vs : List (Option Medium)) (r : StepResult) → given who.step ≡ gives r → HasResult p who brings o vs r → AreAll given f who.step vs
     → AreAll given (more f (option_and_then (λ x. detached_in x r) o)) (suc who.step) (variables_by (option_and_then (λ y. media_came p who (brings y) y vs) (option_and_then media_of o)) vs)
 step_all p who brings None given f vs r gave a all = same_all given f None who.step vs refl all
 step_all p who brings (Some (Step.Media x)) given f vs r gave a all = came_all p who (brings x) x given f vs r gave (a x refl) all _ refl
@@ -122,7 +121,7 @@ medium_stands given gone j n o x at lent = grind (arith, at, lent)
 
 module _ (s : ScriptData) (files : List (List Chunk)) (w : Recorded) (locals : LocalsAreIn s files w) (c : ℕ) where
   -- each step that has a result is so
-  made_so : (n : ℕ) (r : StepResult) → result_in w c n ≡ Some r → HasResult (before_step c n w.pool) (step_by c n) (brought_to s files w c n) (slice_get (steps_of s c) n) (variables_at s files w c n) r
+  made_so : (n : ℕ) (r : StepResult) → result_in w c n ≡ Some r → HasResult (numbers_of (ops_by c n w.pool)) (step_by c n) (brought_to s files w c n) (slice_get (steps_of s c) n) (variables_at s files w c n) r
   made_so n r there x is y comes = grind (arith, locals c n (Step.Media x) r is there, there, is, comes)
 
   all_steps : (n : ℕ) → n ≤ length (at c w.callers) → AreAll (is_given (at c w.callers)) (is_detached (steps_of s c) (at c w.callers) n) n (variables_at s files w c n)
@@ -131,7 +130,7 @@ module _ (s : ScriptData) (files : List (List Chunk)) (w : Recorded) (locals : L
       let results = at c w.callers in
       let here = there results n (omega (arith, le)) in
       subst (λ (o : Option StepResult). AreAll (is_given results) (more (is_detached (steps_of s c) results n) (option_and_then (λ x. option_and_then (detached_in x) o) (slice_get (steps_of s c) n))) (suc n) (variables_at s files w c (suc n))) (sym here.1)
-      (step_all (before_step c n w.pool) (step_by c n) (brought_to s files w c n) (slice_get (steps_of s c) n) (is_given results) (is_detached (steps_of s c) results n) (variables_at s files w c n) here.0
+      (step_all (numbers_of (ops_by c n w.pool)) (step_by c n) (brought_to s files w c n) (slice_get (steps_of s c) n) (is_given results) (is_detached (steps_of s c) results n) (variables_at s files w c n) here.0
       (ap (λ (o : Option StepResult). elim o [ None ↦ false | Some answer ↦ gives answer ]) here.1) (made_so n here.0 here.1) (all_steps n (omega (arith, le))))
 
   -- the results of a caller, up to a step that was made, tell of the media of its variables whether they are detached

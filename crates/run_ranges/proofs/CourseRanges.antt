@@ -28,7 +28,7 @@ use Rattle.codec_accounts.specs.Codec.{CodecValue, Holding, new_codec, BoxStep, 
 use Rattle.script_types.specs.declared.script.{CallerItem.CallerItem, CodecItem.CodecItem, OrderItem.OrderItem, ScriptData.ScriptData}
 use Rattle.script_types.specs.declared.steps.{MediaStep.MediaStep, Step.Step}
 use Rattle.report_text.specs.declared.result.StepResult.{StepResult}
-use Rattle.media_variables.specs.Variables.{Medium, Media, Came, Brought, Reference, lendable_at, handed_by, entries_of, media_came, variables_of}
+use Rattle.media_variables.specs.Variables.{Medium, Media, Came, Brought, Reference, lendable_at, handed_by, next_numbers, entries_of, media_came, variables_of}
 use Rattle.media_variables.specs.Held.{ends_behind, clones_of}
 use Rattle.media_accounts.specs.Accounts.{pool_by}
 use Rattle.trace_text.specs.Follow.{Course, opening_of, steps_of, output_at, chunk_by, chunk_at, chunk_for, Move, Idle, Answer, Advance, Ask, Handle, Receive, take_entry, with_entry, with_media, after_move, turn_on, advance, call_move, encode_of, found_at, handle_move, take_move, media_move, copied_chunk, step_move, next_move, item_move, follow_item, Follows, nothing_yet, order_items}
@@ -108,11 +108,11 @@ variables_set zero (suc k) vs (ws ∷ all) own h = h 0
 variables_set (suc c) (suc k) vs (ws ∷ all) own h = variables_set c k vs all own (λ i. h (suc i))
 
 media_up : (n p most : ℕ) (who : Who) (y : Came) (v : Course) → AreVariables y.variables → IsCourseUpTo n p most v.codecs v.slots v.media → IsCourseUpTo n (p + 1) most v.codecs v.slots (with_media who y v).media
-media_up n p most who y v own h = let few = elim y.does as (λ o. length (entries_of who o) ≤ 1) [ None ↦ omega arith | Some o ↦ omega arith ] in record {
+media_up n p most who y v own h = let few = elim y.does as (λ o. length (entries_of v.media.pool who o) ≤ 1) [ None ↦ omega arith | Some o ↦ omega arith ] in record {
   few = h.few;
   slots = h.slots;
   boxes = h.boxes;
-  media = omega (arith, length-append v.media.pool (entries_of who y.does), few, h.media);
+  media = omega (arith, length-append v.media.pool (entries_of v.media.pool who y.does), few, h.media);
   own = record { entries = h.own.entries; variables = λ c. variables_set c who.caller y.variables v.media.variables own h.own.variables };
 }
 
@@ -306,8 +306,8 @@ media_holds : CodesAreBytes → (s : ScriptData) (media : List (List Chunk)) (wh
 media_holds laws s media who (MediaStep.Take on bind kind) v content h =
     let b : Brought = record { chunk = None; taken = found_at on (codec_at on v.codecs) } in
     let vs = variables_of who.caller v.media.variables in
-    by_option (λ o. IsCameWithin o → MoveHolds (take_move who on (codec_at on v.codecs) o)) (media_came v.media.pool who b (MediaStep.Take on bind kind) vs) (λ none. tt) (λ y is fine. fine)
-    (came_within s v.media.pool who b (MediaStep.Take on bind kind) vs content (found_own laws on v h) (h.variables who.caller))
+    by_option (λ o. IsCameWithin o → MoveHolds (take_move who on (codec_at on v.codecs) o)) (media_came (next_numbers v.media.pool) who b (MediaStep.Take on bind kind) vs) (λ none. tt) (λ y is fine. fine)
+    (came_within s (next_numbers v.media.pool) who b (MediaStep.Take on bind kind) vs content (found_own laws on v h) (h.variables who.caller))
 media_holds laws s media who (MediaStep.Encode on variable) v content h =
     let vs = variables_of who.caller v.media.variables in
     by_option (λ o. IsMediumThere o → MoveHolds (call_move who on (option_map (encode_of v.media.pool (codec_at on v.codecs)) o))) (lendable_at vs variable.step) (λ none. tt)
@@ -315,7 +315,7 @@ media_holds laws s media who (MediaStep.Encode on variable) v content h =
 media_holds laws s media who x v content h =
     let b : Brought = record { chunk = copied_chunk media (steps_of s who.caller) x; taken = None } in
     let vs = variables_of who.caller v.media.variables in
-    by_option (λ o. IsCameWithin o → MoveHolds (handle_move who o)) (media_came v.media.pool who b x vs) (λ none. tt) (λ y is fine. fine) (came_within s v.media.pool who b x vs content tt (h.variables who.caller))
+    by_option (λ o. IsCameWithin o → MoveHolds (handle_move who o)) (media_came (next_numbers v.media.pool) who b x vs) (λ none. tt) (λ y is fine. fine) (came_within s (next_numbers v.media.pool) who b x vs content tt (h.variables who.caller))
 
 step_holds : CodesAreBytes → (s : ScriptData) (media : List (List Chunk)) (made : List CoderId) (who : Who) (x : Step) (v : Course) → AreWithin s media made → slice_get (steps_of s who.caller) who.step ≡ Some x → IsCourseOwn v.codecs v.media → MoveHolds (step_move s media who x v)
 step_holds laws s media made who (Step.Configure on config) v within is h = λ valid. within.configs who.caller who.step on config is

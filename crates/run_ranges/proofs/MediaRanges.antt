@@ -21,8 +21,8 @@ use Rattle.script_types.specs.{declared.steps.Step.Step, Names.is_copied}
 use Rattle.script_types.specs.Sound.{is_variable, are_options_of, is_sound_media, most_chunk}
 use Rattle.report_text.specs.declared.result.StepResult.{StepResult}
 use Rattle.media_variables.specs.CameLaws.{EachCame, by_came}
-use Rattle.media_variables.specs.Variables.{Reference, Shape, SoundOf, PictureOf, ChunkOf, Medium, Came, Taken, Brought, Lendable, medium_at, with_medium, detached, zeros, sound_of, frame_of, copy_options, rect_of, layouts_in, copy_chunk, copy_medium, size_of_medium, chunk_in_medium, chunk_of_variable, chunk_medium, lendable_in, lendable_at, unit_came, media_came}
-use Rattle.media_accounts.specs.Accounts.{step_by, before_step, media_of, variables_by, variables_in, came_in}
+use Rattle.media_variables.specs.Variables.{Reference, Shape, SoundOf, PictureOf, ChunkOf, Medium, Numbers, Came, Taken, Brought, Lendable, medium_at, with_medium, detached, zeros, sound_of, frame_of, copy_options, rect_of, layouts_in, copy_chunk, copy_medium, size_of_medium, chunk_in_medium, chunk_of_variable, chunk_medium, lendable_in, lendable_at, unit_came, media_came}
+use Rattle.media_accounts.specs.Accounts.{step_by, numbers_of, ops_by, media_of, variables_by, variables_in, came_in}
 use Rattle.trace_text.specs.Fits.{IsOwnAnswer}
 use Rattle.report_lines.specs.Fits.{FitsResult}
 use Rattle.run_ranges.specs.Ranges.{IsChunkWithin, IsShapeWithin, IsPictureWithin}
@@ -101,10 +101,10 @@ IsContentWithin x = Unit {0}
 abbrev pub IsOutputWithin : Option Taken → Type 0
 IsOutputWithin o = IfSome o (λ t. IsUnitWithin t.unit)
 
-unit_within : (pool : List PoolEntry) (j : ℕ) (answer : StepResult) (u : output.Unit) (vs : List (Option Medium)) → IsUnitWithin u → AreVariables vs → AreVariables (unit_came pool j answer u vs).variables
-unit_within pool j answer (unit.Sound samples) vs own h = with_within j _ vs ((own.frames, own.timestamp), own.are_bytes) h
-unit_within pool j answer (unit.Image picture) vs own h = with_within j _ vs ((own.timestamp, own.duration), own.are_bytes) h
-unit_within pool j answer (unit.Coded chunk config) vs own h = with_within j (chunk_medium chunk) vs (own.0, tt) h
+unit_within : (numbers : Numbers) (j : ℕ) (answer : StepResult) (u : output.Unit) (vs : List (Option Medium)) → IsUnitWithin u → AreVariables vs → AreVariables (unit_came numbers j answer u vs).variables
+unit_within numbers j answer (unit.Sound samples) vs own h = with_within j _ vs ((own.frames, own.timestamp), own.are_bytes) h
+unit_within numbers j answer (unit.Image picture) vs own h = with_within j _ vs ((own.timestamp, own.duration), own.are_bytes) h
+unit_within numbers j answer (unit.Coded chunk config) vs own h = with_within j (chunk_medium chunk) vs (own.0, tt) h
 
 there_within : (vs : List (Option Medium)) (j : ℕ) (m : Medium) → AreVariables vs → medium_at vs j ≡ Some m → IsVariableWithin (Some m)
 there_within vs j m h is = subst IsVariableWithin is (medium_within vs j h)
@@ -146,15 +146,15 @@ sizes_fit s _ held _ = tt
 abbrev pub FitsTaken : ScriptData → Option Taken → Type 0
 FitsTaken s o = IfSome o (λ t. FitsResult s t.answer)
 
-each_came : (s : ScriptData) (pool : List PoolEntry) (who : Who) (b : Brought) (vs : List (Option Medium)) → IsOutputWithin b.taken → AreVariables vs → EachCame pool who b vs (λ x y. (IsContentWithin x → AreVariables y.variables) × (IsChunkThere b.chunk → FitsTaken s b.taken → IsSizeSmall x → FitsResult s y.answer))
-each_came s pool who b vs own h = record {
+each_came : (s : ScriptData) (numbers : Numbers) (who : Who) (b : Brought) (vs : List (Option Medium)) → IsOutputWithin b.taken → AreVariables vs → EachCame numbers who b vs (λ x y. (IsContentWithin x → AreVariables y.variables) × (IsChunkThere b.chunk → FitsTaken s b.taken → IsSizeSmall x → FitsResult s y.answer))
+each_came s numbers who b vs own h = record {
   refuses = λ x e. (λ small. h, λ there told few. tt);
   absent = λ x. (λ small. h, λ there told few. tt);
   audio = λ bind i. (λ small. with_within who.step _ vs (small.0, take_small (audio.needed i.shape) i.content small.1) h, λ there told few. tt);
   frame = λ bind i. (λ small. with_within who.step _ vs (small.0, take_small (picture_size i.shape) i.content small.1) h, λ there told few. tt);
   takes = λ on bind kind t is. (
-    λ small. unit_within pool who.step t.answer t.unit vs (subst IsOutputWithin is own) h,
-    λ there told few. elim t.unit as (λ u. FitsResult s (unit_came pool who.step t.answer u vs).answer) [ unit.Image picture ↦ subst (FitsTaken s) is told | _ ↦ subst (FitsTaken s) is told ],
+    λ small. unit_within numbers who.step t.answer t.unit vs (subst IsOutputWithin is own) h,
+    λ there told few. elim t.unit as (λ u. FitsResult s (unit_came numbers who.step t.answer u vs).answer) [ unit.Image picture ↦ subst (FitsTaken s) is told | _ ↦ subst (FitsTaken s) is told ],
   );
   clones = λ of bind m r is holds. (λ small. (let its = there_within vs of.step m h is in with_within who.step _ vs (its.0, subst IsHeldWithin holds its.1) h), λ there told few. tt);
   transfers = λ of bind m r is holds. (λ small. (let its = there_within vs of.step m h is in with_within who.step m (with_medium of.step (detached m) vs) its (with_within of.step (detached m) vs (its.0, tt) h)), λ there told few. tt);
@@ -168,11 +168,11 @@ each_came s pool who b vs own h = record {
   sizes = λ of o m is. (λ small. h, λ there told few. sizes_fit s m.shape m.held o);
 }
 
-pub came_within : (s : ScriptData) (pool : List PoolEntry) (who : Who) (b : Brought) (x : MediaStep) (vs : List (Option Medium)) → IsContentWithin x → IsOutputWithin b.taken → AreVariables vs → IsCameWithin (media_came pool who b x vs)
-came_within s pool who b x vs small own h = by_option IsCameWithin (media_came pool who b x vs) tt (λ y is. (by_came pool who b vs _ (each_came s pool who b vs own h) x y is).0 small)
+pub came_within : (s : ScriptData) (numbers : Numbers) (who : Who) (b : Brought) (x : MediaStep) (vs : List (Option Medium)) → IsContentWithin x → IsOutputWithin b.taken → AreVariables vs → IsCameWithin (media_came numbers who b x vs)
+came_within s numbers who b x vs small own h = by_option IsCameWithin (media_came numbers who b x vs) tt (λ y is. (by_came numbers who b vs _ (each_came s numbers who b vs own h) x y is).0 small)
 
-media_answers : (s : ScriptData) (pool : List PoolEntry) (who : Who) (b : Brought) (x : MediaStep) (vs : List (Option Medium)) → IsChunkThere b.chunk → IsOutputWithin b.taken → FitsTaken s b.taken → IsSizeSmall x → AreVariables vs → IsAnswerWithin s (media_came pool who b x vs)
-media_answers s pool who b x vs small own told few h = by_option (IsAnswerWithin s) (media_came pool who b x vs) tt (λ y is. (by_came pool who b vs _ (each_came s pool who b vs own h) x y is).1 small told few)
+media_answers : (s : ScriptData) (numbers : Numbers) (who : Who) (b : Brought) (x : MediaStep) (vs : List (Option Medium)) → IsChunkThere b.chunk → IsOutputWithin b.taken → FitsTaken s b.taken → IsSizeSmall x → AreVariables vs → IsAnswerWithin s (media_came numbers who b x vs)
+media_answers s numbers who b x vs small own told few h = by_option (IsAnswerWithin s) (media_came numbers who b x vs) tt (λ y is. (by_came numbers who b vs _ (each_came s numbers who b vs own h) x y is).1 small told few)
 
 -- ---- a caller's steps
 
@@ -197,15 +197,15 @@ variables_within s steps brought pool c zero given = tt
 variables_within s steps brought pool c (suc j) given =
     let h = variables_within s steps brought pool c j given in
     let vs = variables_in steps brought pool c j in
-    by_option (λ o. AreVariables (variables_by (option_and_then (λ x. media_came (before_step c j pool) (step_by c j) (brought c j x) x vs) o) vs)) (option_and_then media_of (slice_get (steps c) j)) h
-    (λ x is. by_option (λ o. IsCameWithin o → AreVariables (variables_by o vs)) (media_came (before_step c j pool) (step_by c j) (brought c j x) x vs) (λ none. h) (λ y was own. own)
-    (came_within s (before_step c j pool) (step_by c j) (brought c j x) x vs (given.contents c j x (media_is (slice_get (steps c) j) x is)) (given.outputs c j x) h))
+    by_option (λ o. AreVariables (variables_by (option_and_then (λ x. media_came (numbers_of (ops_by c j pool)) (step_by c j) (brought c j x) x vs) o) vs)) (option_and_then media_of (slice_get (steps c) j)) h
+    (λ x is. by_option (λ o. IsCameWithin o → AreVariables (variables_by o vs)) (media_came (numbers_of (ops_by c j pool)) (step_by c j) (brought c j x) x vs) (λ none. h) (λ y was own. own)
+    (came_within s (numbers_of (ops_by c j pool)) (step_by c j) (brought c j x) x vs (given.contents c j x (media_is (slice_get (steps c) j) x is)) (given.outputs c j x) h))
 
 pub came_answers : (s : ScriptData) (steps : ℕ → List Step) (brought : ℕ → ℕ → MediaStep → Brought) (pool : List PoolEntry) (c j : ℕ) → AreSteps s steps brought → IsAnswerWithin s (came_in steps brought pool c j)
 came_answers s steps brought pool c j given =
     let vs = variables_in steps brought pool c j in
-    by_option (λ o. IsAnswerWithin s (option_and_then (λ x. media_came (before_step c j pool) (step_by c j) (brought c j x) x vs) o)) (option_and_then media_of (slice_get (steps c) j)) tt
-    (λ x is. media_answers s (before_step c j pool) (step_by c j) (brought c j x) x vs (given.copied c j x) (given.outputs c j x) (given.told c j x) (given.sizes c j x (media_is (slice_get (steps c) j) x is)) (variables_within s steps brought pool c j given))
+    by_option (λ o. IsAnswerWithin s (option_and_then (λ x. media_came (numbers_of (ops_by c j pool)) (step_by c j) (brought c j x) x vs) o)) (option_and_then media_of (slice_get (steps c) j)) tt
+    (λ x is. media_answers s (numbers_of (ops_by c j pool)) (step_by c j) (brought c j x) x vs (given.copied c j x) (given.outputs c j x) (given.told c j x) (given.sizes c j x (media_is (slice_get (steps c) j) x is)) (variables_within s steps brought pool c j given))
 
 -- the answer of a step on media
 pub media_fits : (s : ScriptData) (o : Option Came) (r : StepResult) → IsAnswerWithin s o → IsOwnAnswer o r → FitsResult s r

@@ -1,7 +1,7 @@
 -- What the history of a pool that callers' steps and codecs' entries account for holds is within its types.
-use Rattle.std.proofs.Common.{ℕ, zero, suc, ◌≡◌, ◌<◌, ◌≤◌, ◌+◌, ◌^◌, not, Bool, true, false, cond, List, [], ◌∷◌, ◌++◌, length, length-append, Some, refl, ap, sym, subst, ◌∙◌, arith, append_assoc, append-nil, eq-eqb}
-use Rattle.std.specs.Prelude.{nat_lt, slice_get, map, ◌==◌, ◌&&◌}
-use Rattle.std.proofs.lemmas.Bool.{and_parts, and_from, cond_both, eqb-true, ltb-true}
+use Rattle.std.proofs.Common.{ℕ, zero, suc, ◌≡◌, ◌<◌, ◌≤◌, ◌+◌, ◌^◌, inl, inr, not, Bool, true, false, cond, List, [], ◌∷◌, ◌++◌, length, length-append, Some, refl, ap, sym, subst, ◌∙◌, arith, append_assoc, append-nil, eq-eqb}
+use Rattle.std.specs.Prelude.{slice_get, map, ◌==◌, ◌&&◌}
+use Rattle.std.proofs.lemmas.Bool.{and_parts, and_from, cases_lt, cond_both, eqb-true}
 use Rattle.std.proofs.lemmas.List.Sums.{count_by-le-length}
 use Rattle.run_ranges.proofs.Cases.{by_option, by_test}
 use Rattle.wc_base.specs.declared.who.By.{By}
@@ -9,7 +9,8 @@ use Rattle.wc_pool.specs.{declared.entry.PoolEntry.PoolEntry, declared.entry.Poo
 use Rattle.wc_pool.specs.Bag.{makes, mints, resource_of, is_number, is_live, resources_made, references_made, references_of, is_held, held_in, count_below, is_legal_next, is_legal_from, is_legal_pool}
 use Rattle.script_types.specs.declared.steps.{MediaStep.MediaStep, Step.Step}
 use Rattle.media_variables.specs.Variables.{Brought}
-use Rattle.media_accounts.specs.Accounts.{is_by_step, is_by_entry, ops_where, without_last, owes, MediaAreIn, came_in}
+use Rattle.media_accounts.specs.Accounts.{is_by_step, is_by_entry, ops_where, without_last, MediaAreIn, came_in}
+use Rattle.media_accounts.specs.OwnLaws.{own_past}
 use Rattle.report_lines.specs.Fits.{FitsPoolOp}
 
 -- ---- counts
@@ -93,8 +94,10 @@ entry_made steps brought lends made pool h n e is = of (e.by) refl
     of : (b : By) → e.by ≡ b → IsMadeBy lends made b
     of (By.Caller who) its =
         let own : is_by_step who.caller who.step e.by ≡ true = ap (is_by_step who.caller who.step) its ∙ same who.caller who.step in
-        ltb-true who.step (made who.caller)
-        (by_test (λ b. (owes b (came_in steps brought pool who.caller who.step) ≡ [] → ⊥) → b ≡ true) (nat_lt who.step (made who.caller)) (λ is some. refl) (λ is some. absurd (some refl)) (λ none. ops_some (is_by_step who.caller who.step) n pool e is own (h.owed who.caller who.step ∙ none)))
+        elim (cases_lt who.step (made who.caller)) [
+          | inl lt ↦ lt
+          | inr le ↦ absurd (ops_some (is_by_step who.caller who.step) n pool e is own (own_past who.caller pool (came_in steps brought pool who.caller) (made who.caller) who.step (h.own who.caller) le))
+        ]
     of (By.Codec k place) its =
         let own : is_by_entry k place e.by ≡ true = ap (is_by_entry k place) its ∙ same k place in
         λ none. ops_some (is_by_entry k place) n pool e is own (elim (ops_where (is_by_entry k place) pool) as (λ os. map without_last os ≡ [] → os ≡ []) [ [] ↦ λ same. refl | o ∷ os ↦ λ same. absurd cc ] (h.codecs k place ∙ none))

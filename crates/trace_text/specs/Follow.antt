@@ -40,7 +40,7 @@ use Rattle.report_text.specs.declared.result.StepResult.{StepResult}
 use Rattle.report_text.specs.declared.result.StepResult.TheVariants as result
 use Rattle.wc_pool.specs.declared.entry.PoolEntry.{PoolEntry}
 use Rattle.wc_pool.specs.Bag.{references_made}
-use Rattle.media_variables.specs.Variables.{Medium, Media, Came, Taken, Brought, Lendable, chunk_in, chunk_of_variable, lendable_at, handed_of, media_came, after_came, variables_of}
+use Rattle.media_variables.specs.Variables.{Medium, Media, Came, Taken, Brought, Lendable, chunk_in, chunk_of_variable, lendable_at, handed_of, next_numbers, media_came, after_came, variables_of}
 use Rattle.media_accounts.specs.Accounts.{after_entry_of}
 
 -- What was recorded so far: each caller's results, each codec's history, the pool's of media, and the registry's.
@@ -262,12 +262,12 @@ take_move who k d (Some y) = Receive who k (state_of d).control.taken y
 abbrev pub media_move : ScriptData → List (List Chunk) → Who → MediaStep → Course → Move
 media_move s media who (on_media.Take on bind kind) v =
     let b : Brought = record { chunk = None; taken = found_at on (codec_at on v.codecs) } in
-    take_move who on (codec_at on v.codecs) (media_came v.media.pool who b (on_media.Take on bind kind) (variables_of who.caller v.media.variables))
+    take_move who on (codec_at on v.codecs) (media_came (next_numbers v.media.pool) who b (on_media.Take on bind kind) (variables_of who.caller v.media.variables))
 media_move s media who (on_media.Encode on content) v =
     call_move who on (option_map (encode_of v.media.pool (codec_at on v.codecs)) (lendable_at (variables_of who.caller v.media.variables) content.step))
 media_move s media who x v =
     let b : Brought = record { chunk = copied_chunk media (steps_of s who.caller) x; taken = None } in
-    handle_move who (media_came v.media.pool who b x (variables_of who.caller v.media.variables))
+    handle_move who (media_came (next_numbers v.media.pool) who b x (variables_of who.caller v.media.variables))
 
 -- the step of a caller
 abbrev pub step_move : ScriptData → List (List Chunk) → Who → Step → Course → Move

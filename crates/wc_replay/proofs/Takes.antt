@@ -18,7 +18,7 @@ use Rattle.wc_replay.specs.{declared.desk.Output.Output, Desk.IsDesk, Desk.IsNex
 use Rattle.wc_replay.proofs.{Desks.seen, Lent.media_same}
 use Rattle.codec_accounts.specs.Codec.{CodecValue, codec_at, codecs_after, slots_by}
 use Rattle.media_variables.specs.Variables as variables
-use Rattle.media_variables.specs.Variables.{Media, Came, IsCome, media_came, taken_came, unit_came, after_came, variables_of}
+use Rattle.media_variables.specs.Variables.{Media, Came, IsCome, next_numbers, media_came, taken_came, unit_came, after_came, variables_of}
 use Rattle.trace_text.specs.Follow.{Course, Answer, after_move, take_move, found_at}
 
 -- ---- a codec's next output
@@ -58,23 +58,23 @@ found k place d t is at = rw (at, is.1, is.0) refl
 pub took : (v : Course) (who : Who) (k place : ℕ) (t : Output) (callers : List (List StepResult)) (codecs : List CodecValue) (m after : Media) (slots : SlotsValue) (r : StepResult)
     → IsNext (codec_at k v.codecs) (Some t) → codecs ≡ codecs_after k (Entry.Call who (Call.Take t.number)) v.slots v.codecs → slots ≡ slots_by k (Entry.Call who (Call.Take t.number)) v.slots (codec_at k v.codecs)
     → m ≡ record v.media { pool = v.media.pool ++ [] } → place ≡ length (codec_at k v.codecs).history
-    → IsCome m after who (taken_came m.pool who.step (Some (record { unit = t.unit; answer = StepResult.Unit k place t.number })) (variables_of who.caller m.variables)) (Some r)
+    → IsCome m after who (taken_came (next_numbers m.pool) who.step (Some (record { unit = t.unit; answer = StepResult.Unit k place t.number })) (variables_of who.caller m.variables)) (Some r)
     → callers ≡ append_at who.caller r v.callers
-    → ◌≡◌ {A = Course} (record { callers = callers; codecs = codecs; media = after; slots = slots }) (after_move (take_move who k (codec_at k v.codecs) (taken_came v.media.pool who.step (found_at k (codec_at k v.codecs)) (variables_of who.caller v.media.variables))) v)
+    → ◌≡◌ {A = Course} (record { callers = callers; codecs = codecs; media = after; slots = slots }) (after_move (take_move who k (codec_at k v.codecs) (taken_came (next_numbers v.media.pool) who.step (found_at k (codec_at k v.codecs)) (variables_of who.caller v.media.variables))) v)
 took v who k place t callers codecs m after slots r is set went left at come noted =
     let d = codec_at k v.codecs in
     let same : m ≡ v.media = left ∙ media_same v.media in
-    let here = subst (λ (x : Media). IsCome x after who (taken_came x.pool who.step (Some (record { unit = t.unit; answer = StepResult.Unit k place t.number })) (variables_of who.caller x.variables)) (Some r)) same come in
-    let y : Came = unit_came v.media.pool who.step (StepResult.Unit k place t.number) t.unit (variables_of who.caller v.media.variables) in
+    let here = subst (λ (x : Media). IsCome x after who (taken_came (next_numbers x.pool) who.step (Some (record { unit = t.unit; answer = StepResult.Unit k place t.number })) (variables_of who.caller x.variables)) (Some r)) same come in
+    let y : Came = unit_came (next_numbers v.media.pool) who.step (StepResult.Unit k place t.number) t.unit (variables_of who.caller v.media.variables) in
     let answer : r ≡ y.answer = some_same r y.answer here.0 in
     let results = noted ∙ ap (λ (x : StepResult). append_at who.caller x v.callers) answer in
     let codecs_are = set ∙ ap (λ (n : ℕ). codecs_after k (Entry.Call who (Call.Take n)) v.slots v.codecs) is.1 in
     let slots_are = went ∙ ap (λ (n : ℕ). slots_by k (Entry.Call who (Call.Take n)) v.slots d) is.1 in
     let media_is = here.1 ∙ ap (λ (z : Media). after_came who y z) (sym (media_same v.media)) in
     (λ i. record { callers = results i; codecs = codecs_are i; media = media_is i; slots = slots_are i })
-    ∙ ap (λ (o : Option variables.Taken). after_move (take_move who k d (taken_came v.media.pool who.step o (variables_of who.caller v.media.variables))) v) (sym (found k place d t is at))
+    ∙ ap (λ (o : Option variables.Taken). after_move (take_move who k d (taken_came (next_numbers v.media.pool) who.step o (variables_of who.caller v.media.variables))) v) (sym (found k place d t is at))
 
 -- a take that found none is a look
 pub found_none : (v : Course) (who : Who) (k : ℕ) → IsNext (codec_at k v.codecs) None
-    → take_move who k (codec_at k v.codecs) (taken_came v.media.pool who.step (found_at k (codec_at k v.codecs)) (variables_of who.caller v.media.variables)) ≡ Answer who.caller (StepResult.NoUnit k (length (codec_at k v.codecs).history))
+    → take_move who k (codec_at k v.codecs) (taken_came (next_numbers v.media.pool) who.step (found_at k (codec_at k v.codecs)) (variables_of who.caller v.media.variables)) ≡ Answer who.caller (StepResult.NoUnit k (length (codec_at k v.codecs).history))
 found_none v who k is = rw is refl

@@ -12,7 +12,8 @@ ghost use Rattle.media_variables.specs.declared.lending.MediumFound.TheVariants 
 ghost use Rattle.order_laws.specs.Course.{held_by_codecs};
 ghost use Rattle.script_types.specs.Names.{taken_from};
 ghost use Rattle.script_types.specs.declared.steps.Step.TheVariants as a_step;
-ghost use Rattle.media_variables.specs.Variables.{Brought, media_came, lendable_at, taken_came, variables_of};
+ghost use Rattle.media_variables.specs.Variables.{Brought, lendable_at, media_came, next_numbers};
+ghost use Rattle.media_variables.specs.Variables.{taken_came, variables_of};
 ghost use Rattle.trace_text.specs.Follow.{Ask, with_result, after_move, advance, chunk_for, item_entry, call_move, encode_of, handle_move, media_move, take_move, found_at, look_of_flush, look_of_state, promise_after, step_move, follow_item, steps_of, source_error};
 ghost use Rattle.report_text.specs.declared.result.StepResult.TheVariants as came;
 ghost use Rattle.script_types.specs.declared.script.OrderItem.TheVariants as item;
@@ -366,7 +367,7 @@ impl<C: Coder> Player<C> {
             (self.new
             ≡ after_move
             (handle_move who
-            (media_came self.old.media.pool who b step.now
+            (media_came (next_numbers self.old.media.pool) who b step.now
             (variables_of who.caller self.old.media.variables))) self.old) }
     {
         match self.media.step(alloc, who, chunk, step)? {
@@ -384,7 +385,8 @@ impl<C: Coder> Player<C> {
         requires lent { AreLent self.old.media.pool self.old.media.variables
             (held_by_codecs self.old.codecs) }
         ensures { let d = codec_at codec self.old.codecs in
-            let came = taken_came self.old.media.pool who.step (found_at codec d)
+            let numbers = next_numbers self.old.media.pool in
+            let came = taken_came numbers who.step (found_at codec d)
             (variables_of who.caller self.old.media.variables) in
             OnOk result (self.new ≡ after_move (take_move who codec d came) self.old) }
     {
@@ -408,7 +410,8 @@ impl<C: Coder> Player<C> {
         requires lent { AreLent self.old.media.pool self.old.media.variables
             (held_by_codecs self.old.codecs) }
         ensures { let d = codec_at codec self.old.codecs in
-            let came = taken_came self.old.media.pool who.step (found_at codec d)
+            let numbers = next_numbers self.old.media.pool in
+            let came = taken_came numbers who.step (found_at codec d)
             (variables_of who.caller self.old.media.variables) in
             OnOk result (self.new ≡ after_move (take_move who codec d came) self.old) }
     {

@@ -1,10 +1,18 @@
-use Rattle.std.proofs.Common.{◌∙◌, ap}
-use Rattle.media_variables.specs.Given.{given_to}
-use Rattle.media_variables.proofs.StepLaws.{audio_comes}
+use Rattle.std.proofs.Common.{ap, sym, subst}
+use Rattle.media_variables.specs.Held.{AreOf, seen_in}
+use Rattle.media_variables.proofs.OfLaws.{given_of, kept_of}
+use Rattle.media_variables.proofs.StepLaws.{audio_acts, kept_seen}
 use Rattle.media_variables.proofs.steps.audio_step.Goals as goal
 
 pub returns-clause-ok : goal.returns-clause-ok
-returns-clause-ok c =
-    let g = c.in_ok-given.given in
-    let kept = c.keep.ensures.variables ∙ ap (given_to c.args.who.step g.medium) c.make_room.ensures.same in
-    audio_comes c.args.who c.args.pool.now _ c.args.variables.now.items _ c.args.init.now g _ c.in_ok-given.ensures.ok c.keep.ensures.answer kept
+returns-clause-ok g c =
+    let x = c.in_ok-given.given in
+    let was = c.args.variables.now.items in
+    audio_acts _ _ c.args.who (seen_in was) _ c.args.init.now x _ c.in_ok-given.ensures.ok c.keep.ensures.answer
+    (kept_seen c.args.who.step x.medium _ _ (seen_in was) c.keep.ensures.variables (ap seen_in c.make_room.ensures.same))
+
+pub returns-clause-of : goal.returns-clause-of
+returns-clause-of g c =
+    let x = c.in_ok-given.given in
+    let room = subst (AreOf (g.P.RefPool.is_of c.args.pool.now)) (sym c.make_room.ensures.same) c.requires in
+    given_of _ c.args.who.step x.medium _ _ c.keep.ensures.variables (kept_of _ _ _ c.make_audio.ensures.kept room) c.in_ok-given.ensures.of

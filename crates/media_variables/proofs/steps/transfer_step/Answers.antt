@@ -1,14 +1,23 @@
-use Rattle.std.proofs.Common.{◌∙◌, List, Option, ap}
-use Rattle.media_variables.specs.Variables.{Medium, medium_at}
-use Rattle.media_variables.specs.Given.{transfer_done, given_to, without}
-use Rattle.media_variables.proofs.StepLaws.{transfer_comes}
+use Rattle.std.proofs.Common.{◌∙◌, List, Option, refl, ap, sym, subst}
+use Rattle.media_variables.specs.Variables.{medium_at}
+use Rattle.media_variables.specs.Held.{WholeMedium, AreOf, without_reference}
+use Rattle.media_variables.specs.Given.{changed_at, given_to, transferred_at}
+use Rattle.media_variables.proofs.OfLaws.{transfer_of}
+use Rattle.media_variables.proofs.StepLaws.{transfer_acts}
 use Rattle.media_variables.proofs.steps.transfer_step.Goals as goal
 
 pub returns-clause-ok : goal.returns-clause-ok
-returns-clause-ok c =
-    let a = c.args in
-    let g = c.transfer_at-given.result in
+returns-clause-ok g c =
+    let x = c.transfer_at-given.result in
     let room = c.make_room.ensures.same in
-    let given = c.transfer_at-given.ensures.given ∙ ap (λ (l : List (Option Medium)). (transfer_done (medium_at l a.of)).given) room in
-    let kept = c.keep.ensures.variables ∙ ap (given_to a.who.step g.medium) (c.transfer_at-given.ensures.detached ∙ ap (without a.of) room) in
-    transfer_comes a.who a.of a.pool.now a.variables.now.items _ g _ given c.keep.ensures.answer kept
+    let given = c.transfer_at-given.ensures.given ∙ ap (λ (l : List (Option WholeMedium)). transferred_at (medium_at l c.args.of)) room in
+    let kept = c.keep.ensures.variables ∙ ap (given_to c.args.who.step x.medium) (c.transfer_at-given.ensures.detached ∙ ap (changed_at without_reference c.args.of) room) in
+    transfer_acts _ _ c.args.who c.args.variables.now.items _ c.args.of x _ refl given c.keep.ensures.answer kept
+
+pub returns-clause-of : goal.returns-clause-of
+returns-clause-of g c =
+    let x = c.transfer_at-given.result in
+    let room = c.make_room.ensures.same in
+    let given = c.transfer_at-given.ensures.given ∙ ap (λ (l : List (Option WholeMedium)). transferred_at (medium_at l c.args.of)) room in
+    let kept = c.keep.ensures.variables ∙ ap (given_to c.args.who.step x.medium) (c.transfer_at-given.ensures.detached ∙ ap (changed_at without_reference c.args.of) room) in
+    transfer_of _ c.args.who.step c.args.of c.args.variables.now.items _ x given kept c.requires

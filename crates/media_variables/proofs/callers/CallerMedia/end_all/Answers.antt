@@ -1,7 +1,7 @@
 use Rattle.std.proofs.Common.{List, map, sym, subst}
 use Rattle.wc_pool.specs.declared.entry.PoolEntry.{PoolEntry}
 use Rattle.media_variables.specs.Variables.{Media}
-use Rattle.media_variables.specs.Held.{pair_of, AreHeld, AreApart}
+use Rattle.media_variables.specs.Held.{pair_of, seen_in, AreHeld, AreApart}
 use Rattle.media_variables.proofs.LendLaws.{ended_held}
 use Rattle.media_variables.proofs.callers.CallerMedia.end_all.Goals as goal
 
@@ -9,5 +9,5 @@ pub invariant_of-self : goal.invariant_of-self
 invariant_of-self c =
     let inner = c.self.inside in
     let ps = map pair_of c.args.media.items in
-    let apart : AreApart inner.pool inner.callers.items ps = subst (λ (m : Media). AreApart m.pool m.variables ps) (sym c.self.view_is) c.requires in
-    subst (λ (l : List PoolEntry). AreHeld l inner.callers.items) (sym c.end_each.ensures) (ended_held c.args.by inner.pool inner.callers.items ps apart c.self.invariant)
+    let apart : AreApart inner.pool (map seen_in inner.callers.items) ps = subst (λ (m : Media). AreApart m.pool m.variables ps) (sym c.self.view_is) c.requires in
+    subst (λ (l : List PoolEntry). AreHeld l (map seen_in inner.callers.items)) (sym c.end_each.ensures) (ended_held c.args.by inner.pool (map seen_in inner.callers.items) ps apart c.self.invariant)
