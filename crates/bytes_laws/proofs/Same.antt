@@ -7,8 +7,8 @@ use Rattle.wc_chunk.specs.declared.chunk.Chunk.{Chunk}
 use Rattle.script_types.specs.{declared.script.ScriptData.ScriptData, Sound.is_sound}
 use Rattle.wc_script.specs.{Read.script_of_value, Laws.ScriptsAreSound}
 use Rattle.media_files.specs.{Laws.OneReading, Media.GivesMedia}
-use Rattle.trace_text.specs.{Report.report_of}
-use Rattle.trace_text.specs.Fits.{Fits, IsLegalRun}
+use Rattle.trace_text.specs.Report.{report_of}
+use Rattle.run_model.specs.Fits.{FitsInOrder, IsLegalRun}
 use Rattle.report_reader.specs.Laws.{LegalReportsDetermineRuns}
 use Rattle.bytes_laws.specs.Runs.{SpelledIsWithin, BytesDetermineRuns}
 
@@ -31,5 +31,5 @@ runs_same told sounds one within files bytes made other report a b x y =
     let media : y.media ≡ x.media = ok_alike _ _ _ _ (one files x.script (Ok y.media) (Ok x.media) given x.spelled.gives) refl refl in
     told x.script x.media made other a b (sound sounds (value_of bytes) x.script x.spelled.reads) (within files bytes x.script x.media made x.spelled x.boxes) (within files bytes x.script x.media other x.spelled y.boxes) x.legal x.fits
     (subst (λ (s : ScriptData). IsLegalRun s b) same y.legal)
-    (subst (λ (s : ScriptData). Fits s x.media other b) same (subst (λ (m : List (List Chunk)). Fits y.script m other b) media y.fits))
+    (subst (λ (s : ScriptData). FitsInOrder s x.media other b) same (subst (λ (m : List (List Chunk)). FitsInOrder y.script m other b) media y.fits))
     (x.reported ∙ sym (subst (λ (s : ScriptData). report_of s b ≡ report) same y.reported))

@@ -14,7 +14,7 @@ use Rattle.media_files.specs.Within.{MediaAreWithin}
 use Rattle.wc_demux.specs.Within.{IsSmallChunk}
 use Rattle.codec_accounts.specs.Owed.{at}
 use Rattle.report_lines.specs.FieldLaws.{FitsOrAbsent}
-use Rattle.trace_text.specs.Follow.{steps_of, chunk_of, chunk_from, chunk_by}
+use Rattle.run_model.specs.Recorded.{steps_of, chunk_of, chunk_from, chunk_by}
 use Rattle.run_ranges.specs.{Counts.caller_of_step, Counts.all_at}
 use Rattle.run_ranges.specs.Ranges.{IsMoment, IsSizeWithin, IsConfigWithin, IsChunkWithin}
 use Rattle.bytes_laws.specs.Runs.{SpelledIsWithin}

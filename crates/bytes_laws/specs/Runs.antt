@@ -6,9 +6,9 @@ use Rattle.script_types.specs.declared.script.ScriptData.{ScriptData}
 use Rattle.wc_script.specs.Read.{script_of}
 use Rattle.media_files.specs.Media.{GivesMedia}
 use Rattle.media_files.specs.Within.{HoldBytes}
-use Rattle.trace_text.specs.declared.run.Run.{Run}
+use Rattle.run_model.specs.declared.run.Run.{Run}
 use Rattle.trace_text.specs.Report.{report_of}
-use Rattle.trace_text.specs.Fits.{Fits, IsLegalRun}
+use Rattle.run_model.specs.Fits.{FitsInOrder, IsLegalRun}
 use Rattle.run_ranges.specs.Ranges.{AreWithin}
 
 -- the bytes spell this script, whose chunk files give these chunks; files hold bytes
@@ -23,14 +23,14 @@ SpelledIsWithin =
     (files : List ℕ → Option (List ℕ)) (bytes : List ℕ) (script : ScriptData) (media : List (List Chunk)) (made : List CoderId)
     → IsSpelled files bytes script media → length made < 2 ^ 64 → AreWithin script media made
 
--- a legal run of what is spelled, with boxes of these coders, and its report
+-- a legal replay of what is spelled, with boxes of these coders, and its report
 pub record IsRunOf (files : List ℕ → Option (List ℕ)) (bytes : List ℕ) (made : List CoderId) (report : List ℕ) (run : Run) : Type 0 where
   pub script : ScriptData
   pub media : List (List Chunk)
   pub spelled : IsSpelled files bytes script media
   pub boxes : length made < 2 ^ 64
   pub legal : IsLegalRun script run
-  pub fits : Fits script media made run
+  pub fits : FitsInOrder script media made run
   pub reported : report_of script run ≡ report
 
 -- two such runs with the same report are equal

@@ -11,9 +11,9 @@ use Rattle.script_types.specs.declared.{script.ScriptData.ScriptData, options.Op
 use Rattle.report_text.specs.declared.result.StepResult.{StepResult}
 use Rattle.media_variables.specs.Variables.{Reference, Shape, SoundOf, PictureOf, Medium, Numbers, Came, zeros, sound_of, frame_of, copy_options, rect_of, layouts_in, audio_copied, frame_copied, planes_copied, chunk_copied, size_found, copy_chunk, copy_medium, size_of_medium, chunk_of_variable, media_came}
 use Rattle.media_variables.specs.CameLaws.{by_came}
-use Rattle.trace_text.specs.Follow.{Recorded}
+use Rattle.run_model.specs.Recorded.{Recorded}
 use Rattle.order_laws.proofs.Grown.{IsFound, brought}
-use Rattle.trace_text.specs.Fits.{mark_of, taken_by, IsResultOf, LookShows, IsLocalAnswer}
+use Rattle.run_model.specs.Fits.{mark_of, taken_by, IsResultOf, LookShows, IsLocalAnswer}
 
 -- neither a call of a codec, nor a look at one, nor a take
 abbrev pub IsOwn : StepResult → Type 0

@@ -21,7 +21,8 @@ use Rattle.codec_accounts.specs.Codec.{CodecValue, state_after, state_of, codec_
 use Rattle.codec_accounts.specs.AccountLaws.{EntryFits, histories_more, history_at, histories_count, set_here, set_other}
 use Rattle.script_types.specs.declared.script.ScriptData.{ScriptData}
 use Rattle.media_accounts.specs.Accounts.{called_at, lent_at, Lending, MayAdd, AreParts, EntryMore}
-use Rattle.trace_text.specs.Follow.{Course, opening_at, with_entry, take_entry, outcome_by, outcome_for}
+use Rattle.run_model.specs.Follow.{Course, with_entry, outcome_by, outcome_for}
+use Rattle.run_model.specs.Recorded.{opening_at, take_entry}
 use Rattle.order_laws.specs.Course.{held_by_codecs}
 
 -- ---- legal entries

@@ -11,11 +11,11 @@ use Rattle.codec_accounts.specs.{Owed.at, ListLaws.get_some, ListLaws.get_kept}
 use Rattle.script_types.specs.declared.{script.ScriptData.ScriptData, steps.Step.Step}
 use Rattle.script_types.specs.Names.{called, taken_from}
 use Rattle.report_text.specs.declared.result.StepResult.{StepResult}
-use Rattle.trace_text.specs.Follow.{Recorded, opening_at, output_at, take_entry}
-use Rattle.trace_text.specs.Fits.{result_in, step_in, made_steps, taken_by, brought_to, came_at, variables_at, IsResultBy, IsResultOf, LookShows, IsLocalAnswer, MarksClimb}
+use Rattle.run_model.specs.Recorded.{Recorded, opening_at, output_at, take_entry}
+use Rattle.run_model.specs.Fits.{result_in, step_in, made_steps, taken_by, brought_to, came_at, variables_at, IsResultBy, IsResultOf, LookShows, IsLocalAnswer, MarksClimb}
 use Rattle.media_variables.specs.Variables.{Came, Taken, Brought}
 use Rattle.media_accounts.specs.Accounts.{variables_by, IsBroughtToo}
-use Rattle.trace_text.specs.FitsLaws.{made_at, look_of, order_by_places}
+use Rattle.run_model.specs.FitsLaws.{made_at, look_of, order_by_places}
 use Rattle.order_laws.proofs.Entries.{shown_kept}
 
 -- each codec's history is legal

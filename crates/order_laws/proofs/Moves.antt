@@ -29,12 +29,13 @@ use Rattle.codec_accounts.specs.Codec.{CodecValue, after_entry, new_codec, state
 use Rattle.codec_accounts.specs.AccountLaws.{Accounted, EntryFits, accounted_more, history_at, set_count}
 use Rattle.script_types.specs.declared.{script.OrderItem.OrderItem, script.ScriptData.ScriptData, steps.Step.Step, steps.MediaStep.MediaStep, steps.Variable.Variable, steps.VariableKind.VariableKind}
 use Rattle.report_text.specs.declared.result.StepResult.{StepResult}
-use Rattle.trace_text.specs.Report.{refusal_in}
+use Rattle.run_model.specs.Fits.{refusal_in}
 use Rattle.media_variables.specs.Held.{held_by}
 use Rattle.media_variables.specs.Variables.{Reference, Shape, SoundOf, PictureOf, ChunkOf, Medium, Media, Numbers, Came, Brought, Lendable, medium_at, lendable_in, lendable_at, handed_by, next_numbers, media_came, taken_came, unit_came, variables_of}
 use Rattle.media_accounts.specs.Accounts.{media_of, OneMore, IsQuiet, MediaStand, StepStands, NothingStands, StepsStand, OthersStand, LaterStand, LaterStands, EntryStands, EntriesStand}
-use Rattle.trace_text.specs.Follow.{Recorded, Course, record_of, opening_at, promise_after, steps_of, chunk_for, source_error, output_at, with_result, with_entry, Move, Answer, Ask, Handle, Receive, after_move, follow_item, handle_move, take_move, copied_chunk, outcome_for, end_of, turn_on, item_entry, advance, call_move, encode_of, result_of, look_of_state, step_move, next_move}
-use Rattle.trace_text.specs.Fits.{result_in, entry_in, step_in, exception_at, mark_of, marks_of, taken_by, brought_to, made_steps, came_at, variables_at, IsResultOf, LookShows, IsLocalAnswer, HasArguments, ArgumentsAreIn, MarksClimb}
+use Rattle.run_model.specs.Recorded.{Recorded, opening_at, promise_after, steps_of, chunk_for, source_error, output_at, copied_chunk}
+use Rattle.run_model.specs.Follow.{Course, record_of, with_result, with_entry, Move, Answer, Ask, Handle, Receive, after_move, follow_item, handle_move, take_move, outcome_for, end_of, turn_on, item_entry, advance, call_move, encode_of, result_of, look_of_state, step_move, next_move}
+use Rattle.run_model.specs.Fits.{result_in, entry_in, step_in, exception_at, mark_of, marks_of, taken_by, brought_to, made_steps, came_at, variables_at, IsResultOf, LookShows, IsLocalAnswer, HasArguments, ArgumentsAreIn, MarksClimb}
 use Rattle.script_types.specs.{Names.called, Names.taken_from, Names.looked_at, Names.IsFlush, SoundLaws.called_is_named}
 use Rattle.order_laws.specs.Sound.{IsSound}
 use Rattle.order_laws.specs.SoundSteps.{stands_in}

@@ -15,9 +15,10 @@ use Rattle.codec_accounts.specs.AccountLaws.{Accounted, are_givable, history_at}
 use Rattle.codec_accounts.specs.BoxAccounts.{nothing_accounted, boxes_accounted}
 use Rattle.script_types.specs.declared.script.{CallerItem.CallerItem, CodecItem.CodecItem, OrderItem.OrderItem, ScriptData.ScriptData}
 use Rattle.report_text.specs.declared.result.StepResult.{StepResult}
-use Rattle.trace_text.specs.declared.run.Run.{Run}
-use Rattle.trace_text.specs.Follow.{Recorded, Course, record_of, opening_of, opening_in, opening_at, steps_of, order_items, follow_item, Follows, nothing_yet}
-use Rattle.trace_text.specs.Fits.{recorded_of, mark_of, marks_of, CallsAreIn, LooksAreIn, ArgumentsAreIn, LocalsAreIn, brought_to, made_steps, lends_in, FollowsTheOrder, Fits}
+use Rattle.run_model.specs.declared.run.Run.{Run}
+use Rattle.run_model.specs.Recorded.{Recorded, opening_of, opening_in, opening_at, steps_of}
+use Rattle.run_model.specs.Follow.{Course, record_of, order_items, follow_item, Follows, nothing_yet}
+use Rattle.run_model.specs.Fits.{recorded_of, mark_of, marks_of, CallsAreIn, LooksAreIn, ArgumentsAreIn, LocalsAreIn, brought_to, made_steps, lends_in, FollowsTheOrder, Fits}
 use Rattle.media_accounts.specs.Accounts.{lent_at, Lending, nothing_lent, MediaAreIn, MediaStand}
 use Rattle.order_laws.specs.{Sound.IsSound, Course.IsCourse}
 use Rattle.order_laws.proofs.Entries.{lending_of}
@@ -103,7 +104,6 @@ module _ (laws : MediaLaws) (s : ScriptData) (media : List (List Chunk)) (made :
         locals = subst (LocalsAreIn s media) is (λ c j x r there at. (let f = st.results c j r at in rw (some_same f.step x (sym f.is_step ∙ there)) at f.answers));
         accounted = subst (λ (w : Recorded). MediaAreIn (steps_of s) (brought_to s media w) (lends_in s w) (made_steps w) w.pool) is st.stand.accounted;
         boxes = subst (λ (w : Recorded). BoxesAccounted made (opening_at s) w.codecs w.slots) is (rw st.codecs.same_made at (boxes_accounted (opening_at s) v.codecs v.slots (λ k lt. st.codecs.opened k) st.codecs.boxes));
-        follows = follows;
       }
 
   pub legal_of : (run : Run) (k : ℕ) → IsSound s → FollowsTheOrder s media made run → IsLegal (opening_at s k) (at k (recorded_of run).codecs)

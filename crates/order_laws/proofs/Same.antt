@@ -15,9 +15,12 @@ use Rattle.codec_accounts.specs.Codec.{Holding, CodecValue, state_of, codec_at, 
 use Rattle.script_types.specs.declared.{script.CodecItem.CodecItem, script.OrderItem.OrderItem, script.ScriptData.ScriptData, steps.Step.Step}
 use Rattle.script_types.specs.declared.steps.MediaStep.{MediaStep}
 use Rattle.report_text.specs.declared.result.StepResult.{StepResult}
-use Rattle.trace_text.specs.declared.run.{CallerTrace.CallerTrace, CodecTrace.CodecTrace, Run.Run}
-use Rattle.trace_text.specs.Follow.{Recorded, Course, record_of, Move, Advance, Ask, Receive, result_of, take_entry, after_move, with_result, with_entry, with_media, steps_of, order_items, item_move, next_move, step_move, done_entry, end_of, outcome_for, follow_item, Follows, nothing_yet}
-use Rattle.trace_text.specs.Fits.{recorded_of, IsLegalTrace, AreLegalTraces, IsLegalRun, FollowsTheOrder}
+use Rattle.run_model.specs.declared.run.CallerTrace.{CallerTrace}
+use Rattle.run_model.specs.declared.run.CodecTrace.{CodecTrace}
+use Rattle.run_model.specs.declared.run.Run.{Run}
+use Rattle.run_model.specs.Recorded.{Recorded, take_entry, steps_of}
+use Rattle.run_model.specs.Follow.{Course, record_of, Move, Advance, Ask, Receive, result_of, after_move, with_result, with_entry, with_media, order_items, item_move, next_move, step_move, done_entry, end_of, outcome_for, follow_item, Follows, nothing_yet}
+use Rattle.run_model.specs.Fits.{recorded_of, IsLegalTrace, AreLegalTraces, IsLegalRun, FollowsTheOrder}
 use Rattle.order_laws.specs.Same.{is_want, wants_memory, SameWants, SameBoxes}
 use Rattle.order_laws.proofs.Entries.{longer_history, made_stays, this_history}
 

@@ -7,7 +7,8 @@ use Rattle.codec_model.specs.Held.{held_in}
 use Rattle.codec_accounts.specs.Codec.{CodecValue, state_of, codec_at, AreGivable}
 use Rattle.script_types.specs.declared.script.ScriptData.{ScriptData}
 use Rattle.media_accounts.specs.Accounts.{AreLent}
-use Rattle.trace_text.specs.Follow.{Course, opening_at}
+use Rattle.run_model.specs.Follow.{Course}
+use Rattle.run_model.specs.Recorded.{opening_at}
 
 -- the references to media that each codec holds
 abbrev pub held_by_codecs : List CodecValue → ℕ → List Pair

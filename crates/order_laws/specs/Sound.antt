@@ -4,7 +4,7 @@ use Rattle.script_types.specs.declared.script.ScriptData.{ScriptData}
 use Rattle.script_types.specs.declared.steps.Variable.{Variable}
 use Rattle.script_types.specs.declared.steps.Step.{Step}
 use Rattle.script_types.specs.Names.{names_codec, looked_at, IsFlush}
-use Rattle.trace_text.specs.Fits.{step_in}
+use Rattle.run_model.specs.Fits.{step_in}
 
 -- Each step that names a codec names one of the script's, and each promise is that of an earlier flush of the same caller.
 pub record IsSound (s : ScriptData) : Type 0 where

@@ -9,8 +9,8 @@ use Rattle.script_types.specs.declared.steps.VariableKind.TheVariants as holds
 use Rattle.script_types.specs.Names.{is_promise, looked_at, IsFlush}
 use Rattle.script_types.specs.Sound.{is_sound, is_sound_step}
 use Rattle.script_types.specs.SoundLaws.{Defines, step_at, named_within, variable_is, promise_kind, promise_there, promise_of_flush}
-use Rattle.trace_text.specs.Follow.{steps_in, steps_of}
-use Rattle.trace_text.specs.Fits.{step_in}
+use Rattle.run_model.specs.Recorded.{steps_in, steps_of}
+use Rattle.run_model.specs.Fits.{step_in}
 use Rattle.codec_accounts.specs.ListLaws.{taken_before, get_from_front}
 use Rattle.order_laws.specs.Sound.{IsSound}
 

@@ -2,9 +2,10 @@
 ghost use Rattle.std.specs.Prelude.{ℕ, ◌≡◌, List, true};
 ghost use Rattle.codec_accounts.specs.Owed.{at};
 ghost use Rattle.codec_model.specs.Replay.{IsLegal};
-ghost use Rattle.trace_text.specs.Fits.{Fits, FollowsTheOrder, IsLegalRun, recorded_of};
-ghost use Rattle.trace_text.specs.Follow.{Course, Follows, nothing_yet, opening_at};
-ghost use Rattle.trace_text.specs.declared.run.Run.{Run};
+ghost use Rattle.run_model.specs.Fits.{Fits, FollowsTheOrder, IsLegalRun, recorded_of};
+ghost use Rattle.run_model.specs.Follow.{Course, Follows, nothing_yet};
+ghost use Rattle.run_model.specs.Recorded.{opening_at};
+ghost use Rattle.run_model.specs.declared.run.Run.{Run};
 ghost use Rattle.wc_chunk.specs.declared.chunk.Chunk.{Chunk};
 ghost use Rattle.wc_config.specs.declared.codec.CoderId.{CoderId};
 ghost use Rattle.script_types.specs.Sound.{is_sound};

@@ -14,9 +14,10 @@ use Rattle.report_text.specs.declared.{result.StepResult.StepResult, line.CallWo
 use Rattle.media_variables.specs.Variables.{Reference, Lendable, lendable_at, handed_by, handed_of}
 use Rattle.codec_model.specs.declared.entry.Content.{Content}
 use Rattle.media_accounts.specs.Contents.{content_before}
-use Rattle.trace_text.specs.Follow.{Recorded, steps_of, chunk_for}
-use Rattle.trace_text.specs.Fits.{HasArguments, result_in, variables_at}
-use Rattle.trace_text.specs.Report.{refusal_in, entry_line_of}
+use Rattle.run_model.specs.Recorded.{Recorded, steps_of, chunk_for}
+use Rattle.run_model.specs.Fits.{HasArguments, result_in, variables_at}
+use Rattle.run_model.specs.Fits.{refusal_in}
+use Rattle.trace_text.specs.Report.{entry_line_of}
 use Rattle.report_reader.specs.declared.known.Known.{Known}
 use Rattle.report_reader.specs.Arguments.{results_of, taken_in, chunk_found, pair_for, clone_of, handed_for, is_given, is_detached, handed_in, call_of, take_of, ground_of, entry_of}
 use Rattle.report_reader.proofs.StandingLaws.{IsStanding}

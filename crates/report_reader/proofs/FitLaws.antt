@@ -14,7 +14,9 @@ use Rattle.history_laws.specs.OutputLaws.{all_append}
 use Rattle.script_types.specs.{declared.script.ScriptData.ScriptData, SoundLaws.parts_of}
 use Rattle.script_types.specs.Sound.{is_sound}
 use Rattle.report_text.specs.declared.{result.StepResult.StepResult, line.EntryLine.EntryLine, line.Line.Line}
-use Rattle.trace_text.specs.declared.run.{CallerTrace.CallerTrace, CodecTrace.CodecTrace, Run.Run}
+use Rattle.run_model.specs.declared.run.CallerTrace.{CallerTrace}
+use Rattle.run_model.specs.declared.run.CodecTrace.{CodecTrace}
+use Rattle.run_model.specs.declared.run.Run.{Run}
 use Rattle.trace_text.specs.Report.{entry_line_of, event_lines, lines_from, result_lines, caller_lines, entry_lines, codec_lines, pool_lines, slot_lines, end_lines, lines_of, report_of}
 use Rattle.report_lines.specs.Fits.{FitsResult, FitsEntryLine, FitsBy, FitsOp, FitsPoolOp, FitsLine}
 use Rattle.report_lines.specs.Laws.{LineFits, LineAgain}

@@ -6,7 +6,9 @@ use Rattle.std.proofs.lemmas.{List.length-append, Bool.lt-ltb}
 use Rattle.codec_definitions.specs.declared.unit.Unit.TheVariants as unit
 use Rattle.codec_model.specs.declared.entry.{Opening.Opening, Event.Event}
 use Rattle.script_types.specs.declared.script.ScriptData.{ScriptData}
-use Rattle.trace_text.specs.declared.run.{CallerTrace.CallerTrace, CodecTrace.CodecTrace, Run.Run}
+use Rattle.run_model.specs.declared.run.CallerTrace.{CallerTrace}
+use Rattle.run_model.specs.declared.run.CodecTrace.{CodecTrace}
+use Rattle.run_model.specs.declared.run.Run.{Run}
 use Rattle.trace_text.specs.Report.{event_lines, lines_from, result_lines, caller_lines, entry_lines, codec_lines, pool_lines, slot_lines, end_lines, lines_of}
 use Rattle.report_lines.specs.{Words.◌>>=◌, Reading.line_at, Fits.AreNames, Fits.FitsLine, Laws.LineAgain, Laws.LineSound}
 use Rattle.report_text.specs.{declared.line.Line.Line, Text.line_text}

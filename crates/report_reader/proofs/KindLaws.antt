@@ -17,8 +17,11 @@ use Rattle.report_text.specs.declared.{result.StepResult.StepResult, line.EventL
 use Rattle.report_lines.specs.Fits.{FitsEventLine, FitsLine}
 use Rattle.media_variables.specs.Variables.{Medium}
 use Rattle.codec_accounts.specs.Owed.{at}
-use Rattle.trace_text.specs.{declared.run.CodecTrace.CodecTrace, declared.run.Run.Run, Follow.Recorded, FitsLaws.made_at, FitsLaws.calls_by_places}
-use Rattle.trace_text.specs.Fits.{CallsAreIn, ArgumentsAreIn, HasArguments, variables_at, IsAnswerOf, IsResultOf, entry_in, step_in, Fits, IsLegalTrace, AreLegalTraces, IsLegalRun}
+use Rattle.run_model.specs.declared.run.CodecTrace.{CodecTrace}
+use Rattle.run_model.specs.declared.run.Run.{Run}
+use Rattle.run_model.specs.Recorded.{Recorded}
+use Rattle.run_model.specs.FitsLaws.{made_at, calls_by_places}
+use Rattle.run_model.specs.Fits.{CallsAreIn, ArgumentsAreIn, HasArguments, variables_at, IsAnswerOf, IsResultOf, entry_in, step_in, Fits, IsLegalTrace, AreLegalTraces, IsLegalRun}
 use Rattle.trace_text.specs.Report.{config_lines, output_lines, event_lines}
 use Rattle.run_ranges.specs.Counts.{caller_of_step, all_from}
 use Rattle.report_reader.specs.Read.{description_of, config_in, unit_of, outputs_in}

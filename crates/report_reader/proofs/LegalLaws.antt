@@ -20,9 +20,12 @@ use Rattle.report_text.specs.declared.result.StepResult.{StepResult}
 use Rattle.media_variables.specs.Variables.{Taken, medium_at, chunk_in_medium}
 use Rattle.media_accounts.specs.Accounts.{without_last, ops_of_entry, called_for, called_at}
 use Rattle.media_accounts.specs.Contents.{chunk_of_unit, ContentsAreKept, ChunksAreTaken}
-use Rattle.trace_text.specs.{declared.run.CallerTrace.CallerTrace, declared.run.CodecTrace.CodecTrace, declared.run.Run.Run, FitsLaws.calls_by_places}
-use Rattle.trace_text.specs.Follow.{Recorded, steps_of, opening_in, opening_at, chunk_at}
-use Rattle.trace_text.specs.Fits.{Fits, IsLegalTrace, AreLegalTraces, IsLegalRun, LocalStepsAnswer, recorded_of, entry_in, result_in, taken_by, brought_to, variables_at}
+use Rattle.run_model.specs.declared.run.CallerTrace.{CallerTrace}
+use Rattle.run_model.specs.declared.run.CodecTrace.{CodecTrace}
+use Rattle.run_model.specs.declared.run.Run.{Run}
+use Rattle.run_model.specs.FitsLaws.{calls_by_places}
+use Rattle.run_model.specs.Recorded.{Recorded, steps_of, opening_in, opening_at, chunk_at}
+use Rattle.run_model.specs.Fits.{Fits, FitsInOrder, IsLegalTrace, AreLegalTraces, IsLegalRun, LocalStepsAnswer, recorded_of, entry_in, result_in, taken_by, brought_to, variables_at}
 use Rattle.run_ranges.specs.{Counts.traces_count, Ranges.AreWithin, Ranges.LegalRunsFit}
 use Rattle.report_reader.specs.declared.known.Known.{Known}
 use Rattle.report_reader.specs.Arguments.{results_of, output_of, taken_in, cloned, pair_for}
@@ -165,8 +168,9 @@ given_at script files made run fits k p e is =
     let calls = arguments_at script files made run fits k p e is in
     record { arguments = calls.0; pair = pair_found script files made run fits k p e is; made = calls.1 }
 
-pub legal_told : HistoryLaws → (script : ScriptData) (files : List (List Chunk)) (made : List CoderId) (run : Run) → is_sound script ≡ true → AreWithin script files made → IsLegalRun script run → Fits script files made run → IsTold script files run
-legal_told laws script files made run sound within legal fits =
+pub legal_told : HistoryLaws → (script : ScriptData) (files : List (List Chunk)) (made : List CoderId) (run : Run) → is_sound script ≡ true → AreWithin script files made → IsLegalRun script run → FitsInOrder script files made run → IsTold script files run
+legal_told laws script files made run sound within legal replayed =
+    let fits = replayed.fits in
     let w = recorded_of run in
     let known = known_of run in
     let found = all_found laws.kept laws.taken script files run legal.codecs fits.locals in
@@ -177,5 +181,5 @@ legal_told laws script files made run sound within legal fits =
         traces = traces_told laws script files w known 0 script.codecs run.codecs found legal.codecs
             (λ i n p e same is. let here : n ≡ i = omega (arith, same) in subst (λ (m : ℕ). IsGiven script files w known m p e) (sym here) (given_at script files made run fits i p e is));
       };
-      whole = record { plain = legal_plain laws.kinds script files made run sound legal fits; fits = laws.lines script files made run sound within legal fits };
+      whole = record { plain = legal_plain laws.kinds script files made run sound legal fits; fits = laws.lines script files made run sound within legal replayed };
     }

@@ -3,7 +3,8 @@ use Rattle.std.proofs.Common.{◌≡◌, ℕ, List, [], sym, ap, ◌∙◌, refl
 use Rattle.std.specs.Prelude.{Result, Ok, Err, IfOk, IfErr}
 use Rattle.wc_chunk.specs.declared.chunk.Chunk.{Chunk}
 use Rattle.script_types.specs.declared.script.ScriptData.{ScriptData}
-use Rattle.trace_text.specs.{declared.run.Run.Run, Report.report_of, Report.lines_of}
+use Rattle.run_model.specs.declared.run.Run.{Run}
+use Rattle.trace_text.specs.Report.{report_of, lines_of}
 use Rattle.report_text.specs.declared.line.Line.{Line}
 use Rattle.report_lines.specs.{Fits.AreNames, Laws.LineAgain}
 use Rattle.report_reader.specs.{declared.forms.Section.Section, declared.fault.ReportFault.ReportFault, Form.AreForms, Read.run_of, Told.IsTold}

@@ -13,7 +13,9 @@ use Rattle.codec_model.specs.Shown.{shows, units_in, units_shown}
 use Rattle.codec_follow.specs.Follow.{follow_step, follow_from, filled, each_filled_from}
 use Rattle.script_types.specs.declared.script.ScriptData.{ScriptData}
 use Rattle.report_text.specs.declared.{result.StepResult.StepResult, line.EntryLine.EntryLine, line.Line.Line}
-use Rattle.trace_text.specs.declared.run.{CallerTrace.CallerTrace, CodecTrace.CodecTrace, Run.Run}
+use Rattle.run_model.specs.declared.run.CallerTrace.{CallerTrace}
+use Rattle.run_model.specs.declared.run.CodecTrace.{CodecTrace}
+use Rattle.run_model.specs.declared.run.Run.{Run}
 use Rattle.trace_text.specs.Report.{entry_line_of, event_lines, lines_from, result_lines, caller_lines, entry_lines, codec_lines, pool_lines, slot_lines, end_lines, lines_of}
 use Rattle.report_reader.specs.declared.known.Known.{Known}
 use Rattle.report_reader.specs.Read.{results_in, behind_results, callers_in, entries_from, entry_lines_in, behind_entries, config_in, outputs_in, trace_of, codecs_in, all_outputs_in, pool_in, behind_pool, slots_in, held_in, run_of}

@@ -12,8 +12,8 @@ use Rattle.report_text.specs.declared.result.StepResult.{StepResult}
 use Rattle.media_variables.specs.CameLaws.{EachCame, by_came}
 use Rattle.media_variables.specs.Variables.{Reference, Shape, SoundOf, PictureOf, ChunkOf, Medium, Numbers, Came, Brought, Lendable, medium_at, with_medium, detached, refused, unit_came, lendable_in, lendable_at, media_came}
 use Rattle.media_accounts.specs.Accounts.{step_by, numbers_of, ops_by, media_of, variables_by}
-use Rattle.trace_text.specs.Follow.{Recorded, steps_of}
-use Rattle.trace_text.specs.Fits.{LocalsAreIn, result_in, brought_to, variables_at}
+use Rattle.run_model.specs.Recorded.{Recorded, steps_of}
+use Rattle.run_model.specs.Fits.{LocalsAreIn, result_in, brought_to, variables_at}
 use Rattle.report_reader.specs.Arguments.{is_ok, gives, is_given, detached_in, is_named, is_detached}
 use Rattle.report_reader.proofs.NameLaws.{there}
 

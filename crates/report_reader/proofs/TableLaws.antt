@@ -9,7 +9,8 @@ use Rattle.std.proofs.lemmas.Bool.{eqb-true, lt-ltb, le-ltb}
 use Rattle.std.proofs.lemmas.Bool.Decides.{nat_tests}
 use Rattle.codec_definitions.specs.declared.unit.Unit as media
 use Rattle.script_types.specs.declared.{script.ScriptData.ScriptData, steps.Step.Step, script.CallerItem.CallerItem}
-use Rattle.trace_text.specs.{declared.run.CallerTrace.CallerTrace, Follow.steps_of, Follow.steps_in}
+use Rattle.run_model.specs.declared.run.CallerTrace.{CallerTrace}
+use Rattle.run_model.specs.Recorded.{steps_of, steps_in}
 use Rattle.codec_model.specs.declared.entry.Content.{Content}
 use Rattle.media_accounts.specs.Contents.{content_by, content_before}
 use Rattle.report_text.specs.declared.result.StepResult.{StepResult}

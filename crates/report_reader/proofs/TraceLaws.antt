@@ -10,7 +10,7 @@ use Rattle.codec_model.specs.{Replay.State, Replay.opening_state, Shown.shows, S
 use Rattle.codec_follow.specs.Follow.{follow_step, filled, filled_at, each_filled_from, each_filled}
 use Rattle.codec_follow.specs.Followed.{FollowerValue, follower_of, Follows}
 use Rattle.script_types.specs.declared.script.ScriptData.{ScriptData}
-use Rattle.trace_text.specs.declared.run.CodecTrace.{CodecTrace}
+use Rattle.run_model.specs.declared.run.CodecTrace.{CodecTrace}
 use Rattle.report_text.specs.declared.line.EntryLine.{EntryLine}
 use Rattle.report_reader.specs.{declared.known.Known.Known, Arguments.entry_of, Next.shown_next, Next.NextIs}
 use Rattle.report_reader.specs.Read.{next_of, entry_then, entries_from, trace_of}

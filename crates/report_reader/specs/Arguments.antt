@@ -32,8 +32,8 @@ use Rattle.report_text.specs.declared.line.EntryLine.TheVariants as entry_line
 use Rattle.media_accounts.specs.Accounts.{is_by_entry}
 use Rattle.codec_model.specs.declared.entry.Content.{Content}
 use Rattle.media_accounts.specs.Contents.{chunk_of_unit, content_before}
-use Rattle.trace_text.specs.declared.run.CallerTrace.{CallerTrace}
-use Rattle.trace_text.specs.Follow.{steps_of, chunk_at}
+use Rattle.run_model.specs.declared.run.CallerTrace.{CallerTrace}
+use Rattle.run_model.specs.Recorded.{steps_of, chunk_at}
 use Rattle.report_reader.specs.declared.known.Known.{Known}
 
 -- ---- outputs that were taken

@@ -4,7 +4,7 @@ use Rattle.std.specs.List.{AllByRecursion}
 use Rattle.codec_model.specs.declared.entry.Event.{Event}
 use Rattle.codec_model.specs.declared.entry.Event.TheVariants as event
 use Rattle.codec_model.specs.declared.entry.Shown.{Shown}
-use Rattle.trace_text.specs.declared.run.CodecTrace.{CodecTrace}
+use Rattle.run_model.specs.declared.run.CodecTrace.{CodecTrace}
 
 abbrev pub FitsEvent : Event → Type 0
 FitsEvent (event.Resolve promise) = promise < 2 ^ 64

@@ -5,9 +5,9 @@ use Rattle.wc_chunk.specs.declared.chunk.Chunk.{Chunk}
 use Rattle.wc_config.specs.declared.codec.CoderId.{CoderId}
 use Rattle.script_types.specs.declared.script.ScriptData.{ScriptData}
 use Rattle.script_types.specs.Sound.{is_sound}
-use Rattle.trace_text.specs.declared.run.Run.{Run}
+use Rattle.run_model.specs.declared.run.Run.{Run}
 use Rattle.trace_text.specs.Report.{report_of, lines_of}
-use Rattle.trace_text.specs.Fits.{Fits, IsLegalRun}
+use Rattle.run_model.specs.Fits.{FitsInOrder, IsLegalRun}
 use Rattle.report_lines.specs.Fits.{AreNames}
 use Rattle.report_reader.specs.declared.fault.ReportFault.TheVariants as fault
 use Rattle.report_reader.specs.Read.{run_of}
@@ -27,17 +27,16 @@ ReportsDetermineRuns = (script : ScriptData) (media : List (List Chunk)) (a b : 
 abbrev pub SoundNames : Type 0
 SoundNames = (script : ScriptData) → IsTrue (is_sound script) → AreNames script
 
--- a legal run that fits its script, in which nothing is at fault, is told by its report, where what it is made of is within
--- its types
+-- a legal replay of a script in which nothing is at fault is told by its report, where what it is made of is within its types
 abbrev pub LegalRunsAreTold : Type 0
 LegalRunsAreTold =
-    (script : ScriptData) (media : List (List Chunk)) (made : List CoderId) (run : Run) → IsTrue (is_sound script) → AreWithin script media made → IsLegalRun script run → Fits script media made run → IsTold script media run
+    (script : ScriptData) (media : List (List Chunk)) (made : List CoderId) (run : Run) → IsTrue (is_sound script) → AreWithin script media made → IsLegalRun script run → FitsInOrder script media made run → IsTold script media run
 
--- two such runs of one script with its chunk files that have the same report are equal, whatever boxes were made for each
+-- two such replays of one script with its chunk files that have the same report are equal, whatever boxes were made for each
 abbrev pub LegalReportsDetermineRuns : Type 0
 LegalReportsDetermineRuns =
     (script : ScriptData) (media : List (List Chunk)) (made other : List CoderId) (a b : Run) → IsTrue (is_sound script) → AreWithin script media made → AreWithin script media other
-    → IsLegalRun script a → Fits script media made a → IsLegalRun script b → Fits script media other b → report_of script a ≡ report_of script b → a ≡ b
+    → IsLegalRun script a → FitsInOrder script media made a → IsLegalRun script b → FitsInOrder script media other b → report_of script a ≡ report_of script b → a ≡ b
 
 -- at most one line is at fault
 abbrev pub FaultIsOne : Type 0

@@ -7,7 +7,7 @@ use Rattle.std.specs.BTreeMap.{get}
 use Rattle.script_types.specs.declared.script.ScriptData.{ScriptData}
 use Rattle.script_types.specs.declared.steps.Step.{Step}
 use Rattle.report_text.specs.declared.result.StepResult.{StepResult}
-use Rattle.trace_text.specs.Follow.{steps_of}
+use Rattle.run_model.specs.Recorded.{steps_of}
 use Rattle.report_reader.specs.declared.known.Known.{Known}
 use Rattle.report_reader.specs.declared.tables.Tables.{Tables}
 use Rattle.report_reader.specs.Arguments.{results_of, pair_for, detached_by, is_named, is_detached}

@@ -8,8 +8,8 @@ use Rattle.codec_model.specs.Shown.{units_shown}
 use Rattle.codec_follow.specs.Follow.{IsFollowed, each_filled}
 use Rattle.codec_follow.specs.Outputs.{IsOutputOf}
 use Rattle.script_types.specs.declared.script.ScriptData.{ScriptData}
-use Rattle.trace_text.specs.declared.run.CodecTrace.{CodecTrace}
-use Rattle.trace_text.specs.declared.run.Run.{Run}
+use Rattle.run_model.specs.declared.run.CodecTrace.{CodecTrace}
+use Rattle.run_model.specs.declared.run.Run.{Run}
 use Rattle.trace_text.specs.Report.{entry_line_of, lines_of}
 use Rattle.report_lines.specs.Fits.{FitsLine}
 use Rattle.report_reader.specs.declared.known.Known.{Known}

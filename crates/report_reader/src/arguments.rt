@@ -1,7 +1,7 @@
 // Entries get the arguments of their steps.
 ghost use Rattle.std.specs.Prelude.{◌≡◌, IfOk, Some, None, option_and_then, option_map, slice_get};
 ghost use Rattle.media_accounts.specs.Contents.{chunk_of_unit};
-ghost use Rattle.trace_text.specs.Follow.{steps_of};
+ghost use Rattle.run_model.specs.Recorded.{steps_of};
 ghost use Rattle.report_reader.specs.Arguments as spec;
 ghost use Rattle.report_reader.specs.Tables.{AreTables};
 
@@ -12,7 +12,7 @@ use codec_model::{Call, Content, Entry, Handed, HeldMedium, Pair};
 use coder_api::Unit;
 use report_text::{CallWord, EntryLine};
 use script_types::{MediaStep, ScriptData, Step};
-use trace_text::{find_chunk, steps_of};
+use run_model::{find_chunk, steps_of};
 use wc_base::{DomError, Ground, List, NoMemory, Who};
 use wc_chunk::Chunk;
 

@@ -13,7 +13,7 @@ use coder_api::{SlotEntry, Unit};
 use report_lines::codec_id_of;
 use report_text::{EntryLine, EventLine, Line, codec_text};
 use std::alloc::{AllocError, Global};
-use trace_text::{CallerTrace, StepResult};
+use run_model::{CallerTrace, StepResult};
 use wc_base::{List, NoMemory, Picture, Samples, Text};
 use wc_chunk::Chunk;
 use wc_config::AudioDecoderConfig;

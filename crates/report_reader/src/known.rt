@@ -5,7 +5,7 @@ ghost use Rattle.codec_accounts.specs.Owed.{at};
 ghost use Rattle.report_reader.specs.Arguments as spec;
 
 use coder_api::Unit;
-use trace_text::{CallerTrace, StepResult};
+use run_model::{CallerTrace, StepResult};
 use wc_base::List;
 use wc_pool::PoolEntry;
 

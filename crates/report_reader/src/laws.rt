@@ -20,7 +20,7 @@ pub fn names_of_sound_scripts()
     ensures { SoundNames }
 {}
 
-/// Laws: a legal run that fits its script, in which nothing is at fault, is told by its report. So two such runs of one
+/// Laws: a legal replay of a script in which nothing is at fault is told by its report. So two such replays of one
 /// script with the same report are equal, whatever boxes were made for each.
 ///
 /// That holds where the script's moments, rates, channels, block sizes, sizes, counts of frames, timestamps and durations, and

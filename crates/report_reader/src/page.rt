@@ -4,7 +4,8 @@ ghost use Rattle.trace_text.specs.Report.{report_of};
 
 use script_types::Script;
 use std::alloc::Global;
-use trace_text::{Run, write_report};
+use run_model::Run;
+use trace_text::write_report;
 use wc_base::{Failed, NoMemory, Sink};
 
 // A sink in memory that grows as it needs. Each of its faults is want of memory.

@@ -14,7 +14,7 @@ use crate::run::run_of;
 use report_lines::{lines_are_read_again, lines_that_are_read_fit};
 use script_types::Script;
 use std::alloc::Global;
-use trace_text::Run;
+use run_model::Run;
 use wc_base::List;
 use wc_chunk::Chunk;
 

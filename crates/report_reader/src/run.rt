@@ -11,7 +11,7 @@ use crate::trace::codecs_of;
 use report_text::Line;
 use script_types::ScriptData;
 use std::alloc::Global;
-use trace_text::Run;
+use run_model::Run;
 use wc_base::{List, NoMemory};
 use wc_chunk::Chunk;
 

@@ -3,7 +3,7 @@ ghost use Rattle.std.specs.Prelude.{ℕ, ◌≡◌, ◌==◌, ◌&&◌, IfOk, On
 ghost use Rattle.std.specs.BTreeMap.{get};
 ghost use Rattle.std.specs.Option.{option_or};
 ghost use Rattle.media_accounts.specs.Accounts.{is_by_entry};
-ghost use Rattle.trace_text.specs.Follow.{steps_of};
+ghost use Rattle.run_model.specs.Recorded.{steps_of};
 ghost use Rattle.report_reader.specs.Arguments as spec;
 ghost use Rattle.report_reader.specs.Tables.{key_cmp, first_named, end_of, is_before, AreTables};
 
@@ -12,7 +12,7 @@ use codec_model::Pair;
 use script_types::{MediaStep, ScriptData, Step};
 use std::alloc::Global;
 use std::collections::BTreeMap;
-use trace_text::{CallerTrace, StepResult};
+use run_model::{CallerTrace, StepResult};
 use wc_base::{By, NoMemory};
 use wc_pool::{PoolEntry, PoolOp};
 

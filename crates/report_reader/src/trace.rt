@@ -18,7 +18,7 @@ use report_text::{EntryLine, Line};
 use script_types::ScriptData;
 use segmented_list::{SegmentedList, SegmentedVec};
 use std::alloc::Global;
-use trace_text::CodecTrace;
+use run_model::CodecTrace;
 use wc_base::{List, NoMemory};
 use wc_chunk::Chunk;
 

@@ -6,7 +6,8 @@ use script_types::Script;
 use std::alloc::Global;
 use std::process::Abort;
 use std::test::Fail;
-use trace_text::{CodecTrace, Run, write_report};
+use run_model::{CodecTrace, Run};
+use trace_text::write_report;
 use wc_base::{MemSink, Who};
 use wc_script::read_script;
 

@@ -18,7 +18,8 @@ use script_types::{
 use std::alloc::Global;
 use std::process::Abort;
 use std::test::Fail;
-use trace_text::{Run, StepResult, write_report};
+use run_model::{Run, StepResult};
+use trace_text::write_report;
 use wc_base::{By, List, MemSink, Text, Who};
 use wc_config::{AudioDecoderConfig, Config};
 use wc_pool::{PoolEntry, PoolOp};

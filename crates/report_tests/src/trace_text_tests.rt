@@ -11,7 +11,8 @@ use script_types::{CallerItem, CodecItem, Script, ScriptData};
 use segmented_list::{SegmentedList, SegmentedVec};
 use std::alloc::Global;
 use std::test::Fail;
-use trace_text::{CallerTrace, CodecTrace, Run, StepResult, WriteFault, write_report};
+use run_model::{CallerTrace, CodecTrace, Run, StepResult};
+use trace_text::{WriteFault, write_report};
 use wc_base::{
     By, DomError, List, MemSink, Picture, PictureFormat, PictureShape, SampleFormat, Samples,
     SoundShape, Text, Who,

@@ -1,7 +1,7 @@
 // The report of a transcode, read back as the run that was replayed: 50 chunks of mu-law are decoded, encoded as FLAC in two
 // blocks, and decoded again.
 ghost use Rattle.std.specs.Prelude.{◌≡◌, None, IsSome, length};
-ghost use Rattle.trace_text.specs.Missing.{missing_in};
+ghost use Rattle.run_model.specs.Missing.{missing_in};
 
 use bytes::Bytes;
 use coder_api::CoderBox;
@@ -13,7 +13,8 @@ use sample_coder::{Coding, SampleCoder};
 use script_types::Script;
 use std::alloc::Global;
 use std::test::Fail;
-use trace_text::{Run, write_report};
+use run_model::Run;
+use trace_text::write_report;
 use wc_base::{List, MemSink};
 use wc_chunk::Chunk;
 use wc_config::Role;

@@ -14,7 +14,7 @@ use script_types::{
 };
 use std::alloc::Global;
 use std::test::Fail;
-use trace_text::StepResult;
+use run_model::StepResult;
 use wc_base::{List, Text, Who};
 use wc_chunk::Chunk;
 use wc_config::{AudioDecoderConfig, Config};

@@ -39,8 +39,8 @@ use Rattle.script_types.specs.declared.steps.Variable.{Variable}
 use Rattle.script_types.specs.declared.steps.VariableKind.TheVariants as holds
 use Rattle.report_text.specs.declared.result.StepResult.{StepResult}
 use Rattle.report_text.specs.declared.result.StepResult.TheVariants as result
-use Rattle.trace_text.specs.declared.run.Run.{Run}
-use Rattle.trace_text.specs.Fits.{FollowsTheOrder, IsLegalRun}
+use Rattle.run_model.specs.declared.run.Run.{Run}
+use Rattle.run_model.specs.Fits.{FollowsTheOrder, IsLegalRun}
 use Rattle.trace_text.specs.Report.{report_of}
 use Rattle.row_tests.specs.ReportRows.{sound, quiet, turn_shown}
 

@@ -36,11 +36,11 @@ use Rattle.script_types.specs.declared.steps.Step.{Step}
 use Rattle.script_types.specs.declared.steps.Step.TheVariants as step
 use Rattle.script_types.specs.declared.script.OrderItem.{OrderItem}
 use Rattle.script_types.specs.declared.script.OrderItem.TheVariants as item
-use Rattle.trace_text.specs.declared.run.Run.{Run}
+use Rattle.run_model.specs.declared.run.Run.{Run}
 use Rattle.report_text.specs.declared.result.StepResult.{StepResult}
 use Rattle.report_text.specs.declared.result.StepResult.TheVariants as result
-use Rattle.trace_text.specs.Fits.{FollowsTheOrder, IsLegalRun}
-use Rattle.trace_text.specs.Missing.{missing_in}
+use Rattle.run_model.specs.Fits.{FollowsTheOrder, IsLegalRun}
+use Rattle.run_model.specs.Missing.{missing_in}
 use Rattle.trace_text.specs.Report.{report_of}
 
 -- ---- the script

@@ -31,7 +31,8 @@ use Rattle.report_text.specs.declared.result.StepResult.{StepResult}
 use Rattle.media_variables.specs.Variables.{Medium, Media, Came, Brought, Reference, lendable_at, handed_by, next_numbers, entries_of, media_came, variables_of}
 use Rattle.media_variables.specs.Held.{ends_behind, clones_of}
 use Rattle.media_accounts.specs.Accounts.{pool_by}
-use Rattle.trace_text.specs.Follow.{Course, opening_of, steps_of, output_at, chunk_by, chunk_at, chunk_for, Move, Idle, Answer, Advance, Ask, Handle, Receive, take_entry, with_entry, with_media, after_move, turn_on, advance, call_move, encode_of, found_at, handle_move, take_move, media_move, copied_chunk, step_move, next_move, item_move, follow_item, Follows, nothing_yet, order_items}
+use Rattle.run_model.specs.Follow.{Course, Move, Idle, Answer, Advance, Ask, Handle, Receive, with_entry, with_media, after_move, turn_on, advance, call_move, encode_of, found_at, handle_move, take_move, media_move, step_move, next_move, item_move, follow_item, Follows, nothing_yet, order_items}
+use Rattle.run_model.specs.Recorded.{opening_of, steps_of, output_at, chunk_by, chunk_at, chunk_for, take_entry, copied_chunk}
 use Rattle.history_laws.specs.{Outputs.HoldsOwn, OutputLaws.outputs_are, CountLaws.outputs_each}
 use Rattle.run_ranges.specs.Counts.{all_from, all_at}
 use Rattle.run_ranges.specs.Ranges.{IsMoment, IsConfigWithin, IsChunkWithin, AreWithin}

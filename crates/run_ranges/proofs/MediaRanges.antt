@@ -23,7 +23,7 @@ use Rattle.report_text.specs.declared.result.StepResult.{StepResult}
 use Rattle.media_variables.specs.CameLaws.{EachCame, by_came}
 use Rattle.media_variables.specs.Variables.{Reference, Shape, SoundOf, PictureOf, ChunkOf, Medium, Numbers, Came, Taken, Brought, Lendable, medium_at, with_medium, detached, zeros, sound_of, frame_of, copy_options, rect_of, layouts_in, copy_chunk, copy_medium, size_of_medium, chunk_in_medium, chunk_of_variable, chunk_medium, lendable_in, lendable_at, unit_came, media_came}
 use Rattle.media_accounts.specs.Accounts.{step_by, numbers_of, ops_by, media_of, variables_by, variables_in, came_in}
-use Rattle.trace_text.specs.Fits.{IsOwnAnswer}
+use Rattle.run_model.specs.Fits.{IsOwnAnswer}
 use Rattle.report_lines.specs.Fits.{FitsResult}
 use Rattle.run_ranges.specs.Ranges.{IsChunkWithin, IsShapeWithin, IsPictureWithin}
 use Rattle.run_ranges.proofs.{Cases.by_option, UnitRanges.IsUnitWithin}

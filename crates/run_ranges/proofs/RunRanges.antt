@@ -19,13 +19,16 @@ use Rattle.script_types.specs.Names.{is_name, names_codec, called, taken_from}
 use Rattle.script_types.specs.Sound.{is_sound, is_sound_order, most_order, most_codecs, most_callers, most_steps}
 use Rattle.script_types.specs.SoundLaws.{parts_of, codec_at, step_at, named_within, taken_is_named, few_steps}
 use Rattle.report_text.specs.declared.{result.StepResult.StepResult, line.Line.Line}
-use Rattle.trace_text.specs.declared.run.{CallerTrace.CallerTrace, CodecTrace.CodecTrace, Run.Run}
+use Rattle.run_model.specs.declared.run.CallerTrace.{CallerTrace}
+use Rattle.run_model.specs.declared.run.CodecTrace.{CodecTrace}
+use Rattle.run_model.specs.declared.run.Run.{Run}
 use Rattle.trace_text.specs.Report.{lines_from, result_lines, caller_lines, entry_lines, codec_lines, pool_lines, slot_lines, lines_of}
 use Rattle.media_variables.specs.Variables.{Medium, Came, chunk_in}
 use Rattle.media_accounts.specs.Accounts.{called_at, lent_at}
-use Rattle.trace_text.specs.Follow.{Recorded, opening_at, output_at, steps_of, chunk_at, order_items}
-use Rattle.trace_text.specs.FitsLaws.{look_of, calls_by_places, order_by_places}
-use Rattle.trace_text.specs.Fits.{recorded_of, mark_of, result_in, entry_in, step_in, CallsAreIn, LookShows, LooksAreIn, IsMediaAnswer, IsLocalAnswer, LocalsAreIn, IsResultBy, IsResultOf, taken_by, variables_at, came_at, brought_to, made_steps, lends_in, Fits, IsLegalTrace, AreLegalTraces, IsLegalRun}
+use Rattle.run_model.specs.Recorded.{Recorded, opening_at, output_at, steps_of, chunk_at}
+use Rattle.run_model.specs.Follow.{order_items}
+use Rattle.run_model.specs.FitsLaws.{look_of, calls_by_places, order_by_places}
+use Rattle.run_model.specs.Fits.{recorded_of, mark_of, result_in, entry_in, step_in, CallsAreIn, LookShows, LooksAreIn, IsMediaAnswer, IsLocalAnswer, LocalsAreIn, IsResultBy, IsResultOf, taken_by, variables_at, came_at, brought_to, made_steps, lends_in, FitsInOrder, IsLegalTrace, AreLegalTraces, IsLegalRun}
 use Rattle.codec_accounts.specs.{ListLaws.get_some, Owed.at, Codec.state_after, Registry.BoxesAccounted, Registry.EndSays}
 use Rattle.codec_accounts.specs.Calls as mark
 use Rattle.codec_accounts.specs.SlotPlaces.{IsOfCodec, cause_there}
@@ -60,7 +63,7 @@ pub record IsKnown (s : ScriptData) (made : List CoderId) (w : Recorded) : Type 
   recorded : IsRecordedUpTo (length made) w
   open recorded use *
 
-known : CodesAreBytes → HeldStays → (s : ScriptData) (media : List (List Chunk)) (made : List CoderId) (run : Run) → is_sound s ≡ true → AreWithin s media made → IsLegalRun s run → Fits s media made run → IsKnown s made (recorded_of run)
+known : CodesAreBytes → HeldStays → (s : ScriptData) (media : List (List Chunk)) (made : List CoderId) (run : Run) → is_sound s ≡ true → AreWithin s media made → IsLegalRun s run → FitsInOrder s media made run → IsKnown s made (recorded_of run)
 known laws stays s media made run sound within legal fits =
     let parts = parts_of s sound in
     let few = and_parts (nat_le (length s.codecs) most_codecs) _ parts.few in
@@ -256,10 +259,11 @@ saturations s sound i c is =
     let range = and_parts (nat_le 1 c.saturation) (nat_le c.saturation 64) apart.1 in
     (leb-true 1 c.saturation range.0, leb-true c.saturation 64 range.1)
 
-pub lines_fit : CodesAreBytes → HeldStays → Always IsNeverStuck → LiveAreNumbered → (s : ScriptData) (media : List (List Chunk)) (made : List CoderId) (run : Run) → is_sound s ≡ true → AreWithin s media made → IsLegalRun s run → Fits s media made run → AllByRecursion (FitsLine s) (lines_of run)
-lines_fit laws stays always numbered s media made run sound within legal fits =
+pub lines_fit : CodesAreBytes → HeldStays → Always IsNeverStuck → LiveAreNumbered → (s : ScriptData) (media : List (List Chunk)) (made : List CoderId) (run : Run) → is_sound s ≡ true → AreWithin s media made → IsLegalRun s run → FitsInOrder s media made run → AllByRecursion (FitsLine s) (lines_of run)
+lines_fit laws stays always numbered s media made run sound within legal replayed =
+    let fits = replayed.fits in
     let w = recorded_of run in
-    let h = known laws stays s media made run sound within legal fits in
+    let h = known laws stays s media made run sound within legal replayed in
     let count = traces_count s.codecs run.codecs legal.codecs in
     let callers = each_lines (FitsLine s) caller_lines 0 run.callers (λ c t is. (
     let there = slice_get_within run.callers c t is in

@@ -10,7 +10,9 @@ use Rattle.run_ranges.proofs.Cases.{comes_after}
 use Rattle.codec_accounts.specs.Owed.{at}
 use Rattle.script_types.specs.declared.script.{CodecItem.CodecItem, ScriptData.ScriptData}
 use Rattle.report_lines.specs.Fits.{FitsWho, FitsEntryLine}
-use Rattle.trace_text.specs.{declared.run.CodecTrace.CodecTrace, Fits.AreLegalTraces, Report.call_line_of}
+use Rattle.run_model.specs.declared.run.CodecTrace.{CodecTrace}
+use Rattle.run_model.specs.Fits.{AreLegalTraces}
+use Rattle.trace_text.specs.Report.{call_line_of}
 
 -- a take's number is at most this; another call has none
 abbrev pub IsTakeUpTo : ℕ → Call → Type 0

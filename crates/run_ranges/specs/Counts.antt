@@ -5,9 +5,9 @@ use Rattle.std.specs.List.{AllByRecursion}
 use Rattle.script_types.specs.declared.script.CallerItem.{CallerItem}
 use Rattle.script_types.specs.declared.script.CodecItem.{CodecItem}
 use Rattle.script_types.specs.declared.steps.Step.{Step}
-use Rattle.trace_text.specs.declared.run.CodecTrace.{CodecTrace}
-use Rattle.trace_text.specs.Follow.{steps_in}
-use Rattle.trace_text.specs.Fits.{AreLegalTraces}
+use Rattle.run_model.specs.declared.run.CodecTrace.{CodecTrace}
+use Rattle.run_model.specs.Recorded.{steps_in}
+use Rattle.run_model.specs.Fits.{AreLegalTraces}
 
 -- as many histories as codecs
 pub traces_count : (cs : List CodecItem) (ts : List CodecTrace) → AreLegalTraces cs ts → length ts ≡ length cs

@@ -19,12 +19,13 @@ use Rattle.script_types.specs.declared.steps.MediaStep.TheVariants as media_step
 use Rattle.script_types.specs.declared.steps.Step.{Step}
 use Rattle.script_types.specs.declared.steps.Step.TheVariants as step
 use Rattle.script_types.specs.Sound.{is_sound}
-use Rattle.trace_text.specs.declared.run.Run.{Run}
+use Rattle.run_model.specs.declared.run.Run.{Run}
 use Rattle.trace_text.specs.Report.{lines_of}
-use Rattle.trace_text.specs.Fits.{Fits, IsLegalRun}
+use Rattle.run_model.specs.Fits.{FitsInOrder, IsLegalRun}
 use Rattle.report_lines.specs.FieldLaws.{FitsOrAbsent}
 use Rattle.report_lines.specs.Fits.{FitsLine}
-use Rattle.trace_text.specs.Follow.{steps_of, chunk_by, order_items}
+use Rattle.run_model.specs.Recorded.{steps_of, chunk_by}
+use Rattle.run_model.specs.Follow.{order_items}
 
 -- a moment of an item, if it has one, has 64 bits
 abbrev pub IsMoment : OrderItem → Type 0
@@ -66,7 +67,7 @@ pub record AreWithin (s : ScriptData) (media : List (List Chunk)) (made : List C
   pub frames : (c j : ℕ) (bind : List ℕ) (init : PictureInit) → slice_get (steps_of s c) j ≡ Some (step.Media (media_step.Frame bind (Some init))) → IsPictureWithin init.shape × IsBytes init.content
   pub boxes : length made < 2 ^ 64
 
--- the lines of a legal run that fits its script, in which nothing is at fault, fit the script
+-- the lines of a legal replay of a script in which nothing is at fault fit the script
 abbrev pub LegalRunsFit : Type 0
 LegalRunsFit =
-    (script : ScriptData) (media : List (List Chunk)) (made : List CoderId) (run : Run) → IsTrue (is_sound script) → AreWithin script media made → IsLegalRun script run → Fits script media made run → AllByRecursion (FitsLine script) (lines_of run)
+    (script : ScriptData) (media : List (List Chunk)) (made : List CoderId) (run : Run) → IsTrue (is_sound script) → AreWithin script media made → IsLegalRun script run → FitsInOrder script media made run → AllByRecursion (FitsLine script) (lines_of run)

@@ -5,7 +5,7 @@ use codec_model::{never_stuck, references_are_held};
 use g711::{alaw_codes, ulaw_codes};
 use wc_pool::references_are_apart;
 
-/// Law: each line of a legal run that fits its script, in which nothing is at fault, fits that script: it names callers
+/// Law: each line of a legal replay of a script in which nothing is at fault fits that script: it names callers
 /// and codecs that are there, and its numbers and bytes are within their types. That holds where the script's moments,
 /// rates, channels, block sizes, sizes, counts of frames, timestamps and durations are within theirs, those of its chunk
 /// files too, what its chunks, its audio data and its frames hold is bytes, and the boxes are fewer than 2^64 (`AreWithin`).

@@ -1,3 +1,2 @@
 mod Steps
 mod LinesLaws
-pub mod Places

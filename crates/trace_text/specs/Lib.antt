@@ -1,7 +1,3 @@
-pub mod Fits
-pub mod FitsLaws
-pub mod Follow
-pub mod Missing
 pub mod Numbered
 pub mod Report
 pub mod Behind

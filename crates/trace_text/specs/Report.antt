@@ -26,9 +26,10 @@ use Rattle.report_text.specs.declared.line.EventLine.TheVariants as event_line
 use Rattle.report_text.specs.declared.line.Line.{Line}
 use Rattle.report_text.specs.declared.line.Line.TheVariants as line
 use Rattle.report_text.specs.Text.{line_text}
-use Rattle.trace_text.specs.declared.run.CallerTrace.{CallerTrace}
-use Rattle.trace_text.specs.declared.run.CodecTrace.{CodecTrace}
-use Rattle.trace_text.specs.declared.run.Run.{Run}
+use Rattle.run_model.specs.Fits.{refusal_in}
+use Rattle.run_model.specs.declared.run.CallerTrace.{CallerTrace}
+use Rattle.run_model.specs.declared.run.CodecTrace.{CodecTrace}
+use Rattle.run_model.specs.declared.run.Run.{Run}
 
 -- the lines of items, each with its number
 abbrev pub lines_from : {X : Type 0} → (ℕ → X → List Line) → ℕ → List X → List Line
@@ -70,11 +71,6 @@ event_lines event.Dequeue = line.Event event_line.Dequeue ∷ []
 event_lines (event.ErrorCall error) = line.Event (event_line.Error error) ∷ []
 
 -- ---- entries of codecs
-
--- the exception with which a call was refused, by what it showed: a refusal stands first
-abbrev pub refusal_in : List Event → Option DomError
-refusal_in (event.Refusal error ∷ events) = Some error
-refusal_in _ = None
 
 -- what stands on the line of a call: its exception, if it has one, or the number of the output that it takes, or its ground
 abbrev pub call_line_of : Who → Call → Option DomError → EntryLine

@@ -5,15 +5,16 @@ ghost use Rattle.std.specs.Option.{option_to_list};
 ghost use Rattle.report_text.specs.declared.line.Line.{Line as LineValue};
 ghost use Rattle.trace_text.specs.Numbered.{TakesFirst};
 ghost use Rattle.trace_text.specs.Report.{lines_from};
+ghost use Rattle.run_model.specs.Fits as fits;
 ghost use Rattle.trace_text.specs.Report as spec;
 ghost use Rattle.trace_text.specs.Behind.{lines_in, lines_behind};
 
 use crate::numbered::{Numbered, NumberedIn};
-use crate::{CallerTrace, CodecTrace, Run};
 use bytes::Bytes;
 use codec_model::{Call, Entry, Event, Shown};
 use coder_api::{SlotEntry, Unit};
 use report_text::{CallWord, EntryLine, EventLine, Line, StepResult};
+use run_model::{CallerTrace, CodecTrace, Run};
 use segmented_list::SegmentedList;
 use std::alloc::Global;
 use std::marker::Model;
@@ -24,7 +25,7 @@ use wc_pool::PoolEntry;
 
 // The exception with which a call was refused, by what it showed.
 fn refusal_in(events: &[Event]) -> Option<DomError>
-    ensures { result ≡ spec.refusal_in events.now }
+    ensures { result ≡ fits.refusal_in events.now }
 {
     match events {
         [Event::Refusal(error), ..] => Some(*error),

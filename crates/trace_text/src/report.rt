@@ -6,9 +6,9 @@ ghost use Rattle.trace_text.specs.Report.{report_of};
 ghost use Rattle.trace_text.specs.Behind.{TakesText};
 ghost use Rattle.trace_text.specs.Written.{Writes};
 
-use crate::Run;
 use crate::lines::RunLines;
 use report_text::push_line;
+use run_model::Run;
 use script_types::{Script, ScriptData};
 use std::alloc::{AllocError, Global};
 use wc_base::{Failed, NoMemory as WantOfMemory, Sink};

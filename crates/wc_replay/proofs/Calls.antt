@@ -11,7 +11,7 @@ use Rattle.codec_accounts.specs.Owed.{append_at}
 use Rattle.codec_accounts.specs.Codec.{CodecValue, codec_at, codecs_after, state_of, slots_by}
 use Rattle.report_text.specs.declared.result.StepResult.{StepResult}
 use Rattle.media_variables.specs.{declared.lending.MediumFound.MediumFound, Variables.Media, Variables.Reference, Variables.Lendable, Variables.handed_by, Variables.handed_of, Held.medium_found}
-use Rattle.trace_text.specs.Follow.{Course, Ask, after_move, encode_of, result_of, media_by}
+use Rattle.run_model.specs.Follow.{Course, Ask, after_move, encode_of, result_of, media_by}
 
 -- a call of a caller, what it makes of all, and what the caller is answered
 pub asked : (v : Course) (who : Who) (k place : ℕ) (x : Call) (error : Option DomError) (callers : List (List StepResult)) (codecs : List CodecValue) (m : Media) (slots : SlotsValue)

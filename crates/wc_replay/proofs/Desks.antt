@@ -16,7 +16,7 @@ use Rattle.codec_model.specs.Held.{running_pairs}
 use Rattle.media_variables.specs.Variables.{Media}
 use Rattle.codec_accounts.specs.Registry.{BoxOut}
 use Rattle.codec_accounts.specs.Codec.{Holding, CodecValue, next_by, Keep, Give, box_step, after_give, slots_after, holding_after, step_by, after_entry, slots_by}
-use Rattle.trace_text.specs.Follow.{outcome_for, start_entry, done_entry, turn_on, media_by}
+use Rattle.run_model.specs.Follow.{outcome_for, start_entry, done_entry, turn_on, media_by}
 use Rattle.wc_replay.specs.Desk as desk
 use Rattle.wc_replay.specs.Desk.{box_out, holding_with, box_of, holding_of, JobMatches, LacksBox, IsRefused, OwnsJob, IsDesk, renewal, codec_by, registry_by, media_by_option, media_without}
 use Rattle.wc_replay.proofs.Lent.{media_same, ended_media}

@@ -9,7 +9,7 @@ use Rattle.codec_model.specs.Held.{held_in, running_pairs, waiting_held, adds_he
 use Rattle.codec_core.specs.Codec.{closes_now}
 use Rattle.codec_accounts.specs.{Codec.CodecValue, Codec.state_of, ListLaws.get_kept}
 use Rattle.media_variables.specs.{Variables.Medium, Variables.Media, Held.AreApart}
-use Rattle.trace_text.specs.Follow.{media_by}
+use Rattle.run_model.specs.Follow.{media_by}
 use Rattle.wc_replay.specs.Desk.{media_without, waiting_if}
 
 -- an entry that calls for nothing leaves the callers' media

@@ -7,7 +7,8 @@ use Rattle.codec_model.specs.declared.entry.{Entry.Entry}
 use Rattle.codec_accounts.specs.Codec.{CodecValue, codec_at}
 use Rattle.media_variables.specs.Variables.{Media}
 use Rattle.report_text.specs.declared.result.StepResult.{StepResult}
-use Rattle.trace_text.specs.Follow.{Course, after_move, advance, look_of_flush, promise_after}
+use Rattle.run_model.specs.Follow.{Course, after_move, advance, look_of_flush}
+use Rattle.run_model.specs.Recorded.{promise_after}
 use Rattle.wc_replay.specs.Desk.{codec_by, registry_by, media_by_option}
 use Rattle.wc_replay.specs.Player.{call_in}
 

@@ -5,7 +5,7 @@ use Rattle.std.proofs.lemmas.List.{take_more}
 use Rattle.std.proofs.lemmas.Option.{slice_get_within, slice_get-get_or, get_or_from_slice_get}
 use Rattle.wc_chunk.specs.declared.chunk.Chunk.{Chunk}
 use Rattle.script_types.specs.declared.script.{OrderItem.OrderItem, ScriptData.ScriptData}
-use Rattle.trace_text.specs.Follow.{order_items, Course, follow_item, Follows}
+use Rattle.run_model.specs.Follow.{order_items, Course, follow_item, Follows}
 
 -- the item that a slice of the order has at an index
 pub item_at : (order items : List OrderItem) (i : ℕ) (d : OrderItem) → items ≡ order → i < length items → slice_get order i ≡ Some (get_or items i d)

@@ -7,7 +7,8 @@ use Rattle.std.proofs.lemmas.Option.{slice_get_within}
 use Rattle.script_types.specs.declared.{script.CodecItem.CodecItem, script.OrderItem.OrderItem, script.ScriptData.ScriptData, steps.Step.Step}
 use Rattle.script_types.specs.Sound.{is_sound, are_sound_codecs, is_sound_item}
 use Rattle.script_types.specs.SoundLaws.{parts_of, names_within, few_steps, item_at}
-use Rattle.trace_text.specs.{Follow.steps_of, Fits.step_in}
+use Rattle.run_model.specs.Recorded.{steps_of}
+use Rattle.run_model.specs.Fits.{step_in}
 use Rattle.order_laws.specs.SoundSteps.{stands_in, sound_step, sound_of}
 use Rattle.wc_replay.specs.Player.{IsPlayable, IsInRange, is_openable}
 

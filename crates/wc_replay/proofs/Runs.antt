@@ -7,9 +7,12 @@ use Rattle.wc_pool.specs.Bag.{held_in}
 use Rattle.codec_model.specs.Replay.{IsLegal}
 use Rattle.wc_config.specs.declared.codec.CoderId.{CoderId}
 use Rattle.script_types.specs.declared.script.{ScriptData.ScriptData, CodecItem.CodecItem}
-use Rattle.trace_text.specs.{declared.run.Run.Run, declared.run.CodecTrace.CodecTrace, declared.run.CallerTrace.CallerTrace, Follow.opening_in}
+use Rattle.run_model.specs.declared.run.Run.{Run}
+use Rattle.run_model.specs.declared.run.CodecTrace.{CodecTrace}
+use Rattle.run_model.specs.declared.run.CallerTrace.{CallerTrace}
+use Rattle.run_model.specs.Recorded.{opening_in}
 use Rattle.codec_accounts.specs.Codec.{CodecValue, codec_at, histories}
-use Rattle.trace_text.specs.Fits.{FollowsTheOrder, AreLegalTraces, IsLegalRun}
+use Rattle.run_model.specs.Fits.{FollowsTheOrder, AreLegalTraces, IsLegalRun}
 use Rattle.order_laws.specs.Course.{IsCourse}
 use Rattle.wc_replay.specs.Player.{IsPlayed, trace_of, caller_trace}
 

@@ -19,7 +19,7 @@ use Rattle.wc_replay.proofs.{Desks.seen, Lent.media_same}
 use Rattle.codec_accounts.specs.Codec.{CodecValue, codec_at, codecs_after, slots_by}
 use Rattle.media_variables.specs.Variables as variables
 use Rattle.media_variables.specs.Variables.{Media, Came, IsCome, next_numbers, media_came, taken_came, unit_came, after_came, variables_of}
-use Rattle.trace_text.specs.Follow.{Course, Answer, after_move, take_move, found_at}
+use Rattle.run_model.specs.Follow.{Course, Answer, after_move, take_move, found_at}
 
 -- ---- a codec's next output
 

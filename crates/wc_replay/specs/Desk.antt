@@ -10,7 +10,8 @@ use Rattle.codec_model.specs.Held.{waiting_held}
 use Rattle.wc_base.specs.declared.who.By.{By}
 use Rattle.wc_replay.specs.declared.desk.Output.{Output}
 use Rattle.media_variables.specs.Held.{IsEnoughUnit}
-use Rattle.trace_text.specs.Follow.{output_at, media_by}
+use Rattle.run_model.specs.Recorded.{output_at}
+use Rattle.run_model.specs.Follow.{media_by}
 use Rattle.codec_core.specs.Codec.{Codec, state_at}
 use Rattle.codec_core.specs.Job.{JobValue, IsJobOf, missing_id}
 use Rattle.codec_core.specs.Owning.{IsOwnJob}

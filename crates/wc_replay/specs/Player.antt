@@ -13,14 +13,15 @@ use Rattle.script_types.specs.Names.{names_codec}
 use Rattle.script_types.specs.declared.steps.MediaStep.{MediaStep}
 use Rattle.script_types.specs.declared.steps.MediaStep.TheVariants as on_media
 use Rattle.codec_model.specs.Shown.{each_shown}
-use Rattle.trace_text.specs.declared.run.CallerTrace.{CallerTrace}
-use Rattle.trace_text.specs.declared.run.CodecTrace.{CodecTrace}
-use Rattle.trace_text.specs.declared.run.Run.{Run}
+use Rattle.run_model.specs.declared.run.CallerTrace.{CallerTrace}
+use Rattle.run_model.specs.declared.run.CodecTrace.{CodecTrace}
+use Rattle.run_model.specs.declared.run.Run.{Run}
 use Rattle.report_text.specs.declared.result.StepResult.{StepResult}
 use Rattle.report_text.specs.declared.result.StepResult.TheVariants as result
-use Rattle.trace_text.specs.Fits.{step_in}
+use Rattle.run_model.specs.Fits.{step_in}
 use Rattle.codec_accounts.specs.Codec.{CodecValue, new_codec}
-use Rattle.trace_text.specs.Follow.{order_items, Course, Follows, nothing_yet, opening_of}
+use Rattle.run_model.specs.Follow.{order_items, Course, Follows, nothing_yet}
+use Rattle.run_model.specs.Recorded.{opening_of}
 use Rattle.order_laws.specs.Sound.{IsSound}
 use Rattle.wc_pool.specs.Bag.{held_in}
 

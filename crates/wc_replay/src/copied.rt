@@ -1,10 +1,10 @@
 // The chunks that steps on media copy.
 ghost use Rattle.std.specs.Prelude.{◌≡◌, IfOk};
 ghost use Rattle.media_variables.specs.Variables.{chunk_in};
-ghost use Rattle.trace_text.specs.Follow.{copied_chunk};
+ghost use Rattle.run_model.specs.Recorded.{copied_chunk};
 
 use script_types::{MediaStep, Options, Step};
-use trace_text::find_chunk;
+use run_model::find_chunk;
 use wc_base::{List, NoMemory};
 use wc_chunk::Chunk;
 

@@ -12,7 +12,8 @@ ghost use Rattle.codec_model.specs.Replay.{State, may_call, sends, call_error, e
 ghost use Rattle.codec_model.specs.Shown.{each_shown, exception_of};
 ghost use Rattle.media_variables.specs.Held.{AreApart, pair_of};
 ghost use Rattle.media_variables.specs.Variables.{Media};
-ghost use Rattle.trace_text.specs.Follow.{promise_after, outcome_for, start_entry, done_entry, turn_entry, reclaim_entry, item_entry};
+ghost use Rattle.run_model.specs.Recorded.{promise_after};
+ghost use Rattle.run_model.specs.Follow.{outcome_for, start_entry, done_entry, turn_entry, reclaim_entry, item_entry};
 ghost use Rattle.wc_replay.specs.Desk.{box_out, box_in, pairs_in, waiting_if, media_without, LacksBox, Makes, IsNext};
 
 use crate::boxes::{fill, give, let_go};

@@ -1,11 +1,11 @@
 // The first step of a script that takes a chunk which its file lacks.
 ghost use Rattle.std.specs.Prelude.{◌≡◌, ◌≤◌, length, Some, slice_get, ℕ};
 ghost use Rattle.script_types.specs.declared.script.CallerItem.{CallerItem};
-ghost use Rattle.trace_text.specs.Missing.{missing_in};
-ghost use Rattle.trace_text.specs.Missing as spec;
+ghost use Rattle.run_model.specs.Missing.{missing_in};
+ghost use Rattle.run_model.specs.Missing as spec;
 
 use script_types::{CallerItem, ChunkSource, Place, Script, Step};
-use trace_text::chunks_of;
+use run_model::chunks_of;
 use wc_base::List;
 use wc_chunk::Chunk;
 

@@ -6,7 +6,7 @@ ghost use Rattle.codec_model.specs.Held.{held_in, in_order, adds_held, lets_go};
 ghost use Rattle.codec_model.specs.Replay.{may_call, call_error, encode_error};
 ghost use Rattle.codec_model.specs.Shown.{exception_of};
 ghost use Rattle.media_variables.specs.Held.{AreApart, pair_of};
-ghost use Rattle.trace_text.specs.Follow.{item_entry};
+ghost use Rattle.run_model.specs.Follow.{item_entry};
 ghost use Rattle.wc_replay.specs.Desk.{codec_by, registry_by, media_by_option, media_without};
 
 use crate::desk::{Answer, Desk};

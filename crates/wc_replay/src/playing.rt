@@ -1,9 +1,10 @@
 // Replays a script.
 ghost use Rattle.std.specs.Prelude.{◌≡◌, ◌≤◌, IfOk, OnOk, IsSome, None, map, length, true};
 ghost use Rattle.std.specs.List.{list_all};
-ghost use Rattle.trace_text.specs.Fits.{IsLegalRun, Fits};
-ghost use Rattle.trace_text.specs.Follow.{Follows, nothing_yet, opening_of, order_items};
-ghost use Rattle.trace_text.specs.Missing.{missing_in};
+ghost use Rattle.run_model.specs.Fits.{IsLegalRun, FitsInOrder};
+ghost use Rattle.run_model.specs.Follow.{Follows, nothing_yet, order_items};
+ghost use Rattle.run_model.specs.Recorded.{opening_of};
+ghost use Rattle.run_model.specs.Missing.{missing_in};
 ghost use Rattle.wc_replay.specs.Player.{IsPlayable, is_openable, new_desk, new_results, trace_of, caller_trace, IsRunOf, IsPlayed};
 
 use crate::desk::Desk;
@@ -16,7 +17,7 @@ use order_laws::{following_fits, following_stands};
 use script_types::{CallerItem, CodecItem, OrderItem, Script, ScriptData};
 use slot_registry::Slots;
 use std::alloc::Global;
-use trace_text::{CallerTrace, CodecTrace, Run};
+use run_model::{CallerTrace, CodecTrace, Run};
 use wc_base::{List, NoMemory, try_push};
 use wc_chunk::Chunk;
 
@@ -190,7 +191,7 @@ pub fn replay<C: Coder>(
     requires files { length media.now ≡ length script.now.chunk_files }
     requires chunks { missing_in script.now media.now ≡ None }
     ensures legal { IfOk result (λ run. IsLegalRun script.now run) }
-    ensures fits { IfOk result (λ run. Fits script.now media.now (map C.coder coders.items) run) }
+    ensures fits { IfOk result (λ run. FitsInOrder script.now media.now (map C.coder coders.items) run) }
 {
     following_fits();
     following_stands();

@@ -4,7 +4,7 @@ ghost use Rattle.codec_accounts.specs.Owed.{at, append_at};
 
 use std::alloc::Global;
 use std::marker::Model;
-use trace_text::StepResult;
+use run_model::StepResult;
 use wc_base::{NoMemory, try_push};
 
 /// The results of one caller's steps so far.

@@ -14,7 +14,8 @@ ghost use Rattle.script_types.specs.Names.{taken_from};
 ghost use Rattle.script_types.specs.declared.steps.Step.TheVariants as a_step;
 ghost use Rattle.media_variables.specs.Variables.{Brought, lendable_at, media_came, next_numbers};
 ghost use Rattle.media_variables.specs.Variables.{taken_came, variables_of};
-ghost use Rattle.trace_text.specs.Follow.{Ask, with_result, after_move, advance, chunk_for, item_entry, call_move, encode_of, handle_move, media_move, take_move, found_at, look_of_flush, look_of_state, promise_after, step_move, follow_item, steps_of, source_error};
+ghost use Rattle.run_model.specs.Follow.{Ask, with_result, after_move, advance, item_entry, call_move, encode_of, handle_move, media_move, take_move, found_at, look_of_flush, look_of_state, step_move, follow_item};
+ghost use Rattle.run_model.specs.Recorded.{chunk_for, promise_after, steps_of, source_error};
 ghost use Rattle.report_text.specs.declared.result.StepResult.TheVariants as came;
 ghost use Rattle.script_types.specs.declared.script.OrderItem.TheVariants as item;
 ghost use Rattle.wc_replay.specs.Desk.{IsNext};
@@ -31,7 +32,7 @@ use script_types::{ChunkSource, MediaStep, OrderItem, ScriptData, Step};
 use slot_registry::Slots;
 use std::alloc::Global;
 use std::marker::Model;
-use trace_text::{StepResult, find_chunk, steps_of};
+use run_model::{StepResult, find_chunk, steps_of};
 use wc_base::{By, DomError, List, NoMemory, Who};
 use wc_chunk::Chunk;
 
@@ -45,7 +46,7 @@ pub(crate) struct Player<C: Coder> {
 }
 
 impl<C: Coder> Model for Player<C> {
-    ghost use Rattle.trace_text.specs.Follow.{Course};
+    ghost use Rattle.run_model.specs.Follow.{Course};
 
     ghost Value = { Course };
 

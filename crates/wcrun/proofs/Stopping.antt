@@ -8,7 +8,7 @@ use Rattle.media_files.specs.Media.{FailedBy, GivesMedia, IsReached, MayFail}
 use Rattle.wc_script.specs.{Faults.IsOfScript, Read.script_of}
 use Rattle.wcrun.specs.Headline.{Reading, reading, Holding, ComesTo, Comes}
 use Rattle.wc_chunk.specs.declared.chunk.Chunk.{Chunk}
-use Rattle.trace_text.specs.Missing.{missing_in}
+use Rattle.run_model.specs.Missing.{missing_in}
 use Rattle.wcrun.specs.Outcome.{Outcome, Runs, playable_of, if_spelled, if_there, Becomes, IsOutcome}
 use Rattle.wcrun.specs.Stops.{MayStop, MayStopFor}
 use Rattle.wcrun.specs.Words.{command, to_replay}

@@ -11,8 +11,8 @@ use Rattle.script_types.specs.declared.fault.Fault.{Fault}
 use Rattle.script_types.specs.declared.fault.Fault.TheVariants as fault
 use Rattle.chunk_files.specs.declared.fault.Stop.TheVariants as stop
 use Rattle.script_types.specs.declared.script.ScriptData.{ScriptData}
-use Rattle.trace_text.specs.declared.run.Run.{Run}
-use Rattle.trace_text.specs.Fits.{IsLegalRun, Fits}
+use Rattle.run_model.specs.declared.run.Run.{Run}
+use Rattle.run_model.specs.Fits.{IsLegalRun, FitsInOrder}
 use Rattle.trace_text.specs.Report.{report_of}
 use Rattle.media_files.specs.Media.{IsReached}
 use Rattle.wcrun.specs.Refusals.{status_of, line_of, usage_line, memory_line}
@@ -89,7 +89,7 @@ file_in (Some c) = Some c.file
 pub record IsRunOf (r : Reading) (coders : List CoderId) (ready : Ready) (run : Run) : Type 0 where
   pub spelled : ComesTo r (Ok (Runs ready))
   pub legal : IsLegalRun ready.script run
-  pub fits : Fits ready.script ready.media coders run
+  pub fits : FitsInOrder ready.script ready.media coders run
 
 -- The text is the report of such a run, for which the words ask.
 pub record IsReport (r : Reading) (coders : List CoderId) (text : List ℕ) : Type 0 where

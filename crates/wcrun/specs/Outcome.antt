@@ -21,7 +21,7 @@ use Rattle.script_types.specs.Limits.{most_file}
 use Rattle.media_files.specs.Media.{Answers, GivesMedia}
 use Rattle.wc_demux.specs.Media.{IsMediaFault}
 use Rattle.wc_script.specs.Read.{script_of}
-use Rattle.trace_text.specs.Missing.{missing_in}
+use Rattle.run_model.specs.Missing.{missing_in}
 use Rattle.wcrun.specs.Probe.{IsMediaLine}
 use Rattle.wcrun.specs.Words.{Command}
 use Rattle.wcrun.specs.declared.command.Verb.{Verb}

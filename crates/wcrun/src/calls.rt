@@ -17,7 +17,8 @@ use crate::probe::probe;
 use coder_api::Coder;
 use script_types::{Fault, Script, Stop};
 use std::alloc::Global;
-use trace_text::{Run, WriteFault, write_report};
+use run_model::Run;
+use trace_text::{WriteFault, write_report};
 use wc_base::{Files, Sink};
 use wc_replay::replay;
 

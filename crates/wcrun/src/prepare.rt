@@ -1,6 +1,6 @@
 // Reads a script and its chunk files, up to where it can be replayed.
 ghost use Rattle.std.specs.Prelude.{◌≡◌, ◌≤◌, ◌⊎◌, IfOk, IfErr, IfSome, IsSome, IsSomeAnd, Some, None, Ok, Err, length, ◌≢◌};
-ghost use Rattle.trace_text.specs.Missing.{missing_in};
+ghost use Rattle.run_model.specs.Missing.{missing_in};
 ghost use Rattle.media_files.specs.Media.{FailedBy};
 ghost use Rattle.wcrun.specs.Headline.{reading, ComesTo};
 ghost use Rattle.wc_script.specs.Faults.{IsOfScript};

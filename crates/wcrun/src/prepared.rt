@@ -1,6 +1,6 @@
 // A script that can be replayed, and its run.
 use script_types::Script;
-use trace_text::Run;
+use run_model::Run;
 use wc_base::List;
 use wc_chunk::Chunk;
 

@@ -1,7 +1,7 @@
 use Rattle.std.proofs.Common.{ℕ, ◌≡◌, length}
 use Rattle.std.specs.Prelude.{None, nat_lt, if◌then◌else◌}
 use Rattle.std.specs.BTreeMap.{get}
-use Rattle.trace_text.specs.Follow.{steps_of}
+use Rattle.run_model.specs.Recorded.{steps_of}
 use Rattle.report_reader.specs.{Arguments.results_of, Arguments.detached_by, Tables.key_cmp, Tables.first_named}
 use Rattle.report_reader.proofs.tables.ends_of.Given as goal
 

@@ -1,5 +1,5 @@
 use Rattle.std.specs.BTreeMap.{get}
-use Rattle.trace_text.specs.Follow.{steps_of}
+use Rattle.run_model.specs.Recorded.{steps_of}
 use Rattle.report_reader.specs.{Arguments.results_of, Tables.key_cmp}
 use Rattle.report_reader.proofs.TableLaws.{ends_tell}
 use Rattle.report_reader.proofs.tables.tables_of.Goals as goal

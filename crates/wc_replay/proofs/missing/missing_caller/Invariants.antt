@@ -1,5 +1,5 @@
 use Rattle.std.proofs.Common.{◌≡◌, drop}
-use Rattle.trace_text.specs.Missing.{missing_caller}
+use Rattle.run_model.specs.Missing.{missing_caller}
 use Rattle.wc_replay.proofs.missing.missing_caller.Given as goal
 
 abbrev pub invariant-loop-i : goal.invariant-loop-i

@@ -1,5 +1,5 @@
 use Rattle.std.proofs.Common.{◌≡◌, drop}
-use Rattle.trace_text.specs.Missing.{missing_step}
+use Rattle.run_model.specs.Missing.{missing_step}
 use Rattle.wc_replay.proofs.missing.missing_step.Given as goal
 
 abbrev pub invariant-loop-j : goal.invariant-loop-j

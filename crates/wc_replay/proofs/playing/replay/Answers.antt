@@ -1,6 +1,7 @@
 use Rattle.std.proofs.Common.{IfOk, map, rules}
 use Rattle.std.proofs.lemmas.Result.{IfOk-weaker}
-use Rattle.trace_text.specs.{Fits.IsLegalRun, Fits.Fits, Follow.order_items}
+use Rattle.run_model.specs.Fits.{IsLegalRun, FitsInOrder}
+use Rattle.run_model.specs.Follow.{order_items}
 use Rattle.wc_replay.specs.Player.{IsPlayed}
 use Rattle.wc_replay.proofs.{Playable.playable_of, Playable.openable_of, Runs.played_follows, Runs.played_legal}
 use Rattle.wc_replay.proofs.playing.replay.Goals as goal
@@ -16,5 +17,5 @@ returns g c =
     let played : IfOk c.play.result (IsPlayed s media ids) = rw c.data.ensures.data at c.play.ensures in
     record {
       legal = IfOk-weaker c.play.result (IsPlayed s media ids) (IsLegalRun s) (λ run p. played_legal s media ids run p (c.following_stands.ensures s media ids (order_items s) p.course c.data.ensures.sound p.follows)) played;
-      fits = IfOk-weaker c.play.result (IsPlayed s media ids) (Fits s media ids) (λ run p. c.following_fits.ensures.fits s media ids run c.data.ensures.sound (played_follows s media ids run p)) played;
+      fits = IfOk-weaker c.play.result (IsPlayed s media ids) (FitsInOrder s media ids) (λ run p. record { fits = c.following_fits.ensures.fits s media ids run c.data.ensures.sound (played_follows s media ids run p); follows = played_follows s media ids run p }) played;
     }

@@ -1,7 +1,7 @@
 use Rattle.std.proofs.Common.{ℕ, take, sym, subst, rules}
 use Rattle.std.specs.Prelude.{slice_index_or}
 use Rattle.script_types.specs.declared.script.OrderItem.{OrderItem}
-use Rattle.trace_text.specs.Follow.{order_items, nothing_yet}
+use Rattle.run_model.specs.Follow.{order_items, nothing_yet}
 use Rattle.wc_replay.specs.Player.{IsInRange}
 use Rattle.wc_replay.proofs.{Orders.item_at, Orders.follows_to}
 use Rattle.wc_replay.proofs.playing.take_items.Goals as goal

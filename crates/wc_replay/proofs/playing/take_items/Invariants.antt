@@ -1,5 +1,5 @@
 use Rattle.std.proofs.Common.{take}
-use Rattle.trace_text.specs.Follow.{order_items, Follows, nothing_yet}
+use Rattle.run_model.specs.Follow.{order_items, Follows, nothing_yet}
 use Rattle.wc_replay.proofs.playing.take_items.Given as goal
 
 abbrev pub invariant-loop-item : goal.invariant-loop-item

@@ -3,7 +3,7 @@ use Rattle.codec_model.specs.{Control.kind_of, Replay.answer_to, Held.in_order}
 use Rattle.codec_core.specs.{Codec.state_at, Job.JobValue}
 use Rattle.codec_media.specs.Holding.{EndedValue}
 use Rattle.media_variables.specs.Held.{pair_of}
-use Rattle.trace_text.specs.Follow.{outcome_for, done_entry}
+use Rattle.run_model.specs.Follow.{outcome_for, done_entry}
 use Rattle.wc_replay.specs.Desk.{IsDesk}
 use Rattle.wc_replay.proofs.Desks.{seen, makes_seen, ended_makes}
 use Rattle.wc_replay.proofs.Lent.{apart_running}

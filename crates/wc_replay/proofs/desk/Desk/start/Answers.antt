@@ -6,7 +6,7 @@ use Rattle.codec_core.specs.{Codec.state_at, Job.JobValue}
 use Rattle.codec_model.specs.Control.{start_item}
 use Rattle.wc_replay.specs.Desk.{box_of}
 use Rattle.std.proofs.lemmas.Result.{IfOk-at_ok}
-use Rattle.trace_text.specs.Follow.{start_entry}
+use Rattle.run_model.specs.Follow.{start_entry}
 use Rattle.wc_replay.proofs.Desks.{seen, makes_seen, started_makes, some_item, idle_job}
 use Rattle.wc_replay.proofs.desk.Desk.start.Goals as goal
 

@@ -2,7 +2,7 @@ use Rattle.std.proofs.Common.{refl, ◌∙◌, ap, sym, option_map}
 use Rattle.codec_model.specs.declared.entry.Entry.{Entry}
 use Rattle.codec_core.specs.Codec.{Codec, state_at, closes_now}
 use Rattle.media_variables.specs.Variables.{Media}
-use Rattle.trace_text.specs.Follow.{turn_entry}
+use Rattle.run_model.specs.Follow.{turn_entry}
 use Rattle.codec_accounts.specs.{Codec.CodecValue, Boxes.removal_act}
 use Rattle.wc_replay.specs.Desk.{box_out, box_in, pairs_in}
 use Rattle.wc_replay.proofs.Desks.{seen, makes_seen, makes_some, parts_of, turn_there}

@@ -1,7 +1,7 @@
 use Rattle.std.proofs.Common.{ap, ◌∙◌}
 use Rattle.std.proofs.lemmas.Result.{on_ok_weaker}
 use Rattle.codec_accounts.specs.Codec.{codec_at}
-use Rattle.trace_text.specs.Follow.{Course, after_move, advance, item_entry}
+use Rattle.run_model.specs.Follow.{Course, after_move, advance, item_entry}
 use Rattle.wc_replay.proofs.Looks.{advance_is}
 use Rattle.wc_replay.proofs.steps.Player.advance.Goals as goal
 

@@ -2,7 +2,7 @@ use Rattle.std.proofs.Common.{subst, sym}
 use Rattle.codec_model.specs.Held.{held_in}
 use Rattle.codec_accounts.specs.Codec.{codec_at, state_of}
 use Rattle.media_variables.specs.Held.{AreApart}
-use Rattle.trace_text.specs.Follow.{Course}
+use Rattle.run_model.specs.Follow.{Course}
 use Rattle.wc_replay.proofs.Lent.{apart_gone}
 use Rattle.wc_replay.proofs.steps.Player.call.Goals as goal
 

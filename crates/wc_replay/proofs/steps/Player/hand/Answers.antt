@@ -3,7 +3,7 @@ use Rattle.std.proofs.lemmas.Result.{on_ok_weaker}
 use Rattle.codec_accounts.specs.Codec.{codec_at, state_of}
 use Rattle.codec_model.specs.{declared.entry.Call.Call, Replay.encode_error}
 use Rattle.media_variables.specs.Variables.{lendable_at, variables_of}
-use Rattle.trace_text.specs.Follow.{Course, after_move, call_move}
+use Rattle.run_model.specs.Follow.{Course, after_move, call_move}
 use Rattle.wc_replay.proofs.Calls.{hands_kept}
 use Rattle.wc_replay.proofs.steps.Player.hand.Goals as goal
 

@@ -9,7 +9,7 @@ use Rattle.wc_pool.specs.Bag.{references_made}
 use Rattle.media_variables.specs.{declared.lending.MediumFound.MediumFound, Variables.handed_of, Variables.lendable_at, Variables.variables_of}
 use Rattle.media_variables.specs.Held.{clones_of, pair_of, medium_found}
 use Rattle.report_text.specs.declared.result.StepResult.{StepResult}
-use Rattle.trace_text.specs.Follow.{Course, after_move, call_move, encode_of}
+use Rattle.run_model.specs.Follow.{Course, after_move, call_move, encode_of}
 use Rattle.wc_replay.proofs.{Calls.asked, Calls.hands_clone, Calls.may_clone, Lent.media_same}
 use Rattle.wc_replay.proofs.steps.Player.lend.Goals as goal
 

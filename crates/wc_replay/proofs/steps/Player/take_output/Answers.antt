@@ -1,6 +1,6 @@
 use Rattle.std.proofs.Common.{Some, subst, sym}
 use Rattle.codec_accounts.specs.Codec.{codec_at}
-use Rattle.trace_text.specs.Follow.{Course}
+use Rattle.run_model.specs.Follow.{Course}
 use Rattle.wc_replay.specs.Desk.{IsNext}
 use Rattle.wc_replay.proofs.steps.Player.take_output.Goals as goal
 

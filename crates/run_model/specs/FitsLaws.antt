@@ -15,8 +15,8 @@ use Rattle.script_types.specs.declared.script.ScriptData.{ScriptData}
 use Rattle.script_types.specs.Names.{called, taken_from}
 use Rattle.report_text.specs.declared.result.StepResult.{StepResult}
 use Rattle.report_text.specs.declared.result.StepResult.TheVariants as result
-use Rattle.trace_text.specs.Follow.{Recorded, opening_at, take_entry}
-use Rattle.trace_text.specs.Fits.{result_in, entry_in, exception_at, mark_of, marks_of, IsResultBy, CallsAreIn, MarksClimb}
+use Rattle.run_model.specs.Recorded.{Recorded, opening_at, take_entry}
+use Rattle.run_model.specs.Fits.{result_in, entry_in, exception_at, mark_of, marks_of, IsResultBy, CallsAreIn, MarksClimb}
 
 -- The entry at this place is a call of this step, and shows this exception.
 pub record KeepsCall (s : ScriptData) (w : Recorded) (who : Who) (k p : ℕ) (error : Option DomError) : Type 0 where

@@ -1,5 +1,5 @@
-use Rattle.trace_text.specs.FitsLaws as laws
-use Rattle.trace_text.proofs.laws.fits_by_places.Goals as goal
+use Rattle.run_model.specs.FitsLaws as laws
+use Rattle.run_model.proofs.laws.fits_by_places.Goals as goal
 
 pub returns-clause-calls : goal.returns-clause-calls
 returns-clause-calls c = laws.calls_by_places

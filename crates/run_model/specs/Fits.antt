@@ -18,11 +18,12 @@ use Rattle.script_types.specs.declared.steps.MediaStep.{MediaStep}
 use Rattle.script_types.specs.declared.steps.MediaStep.TheVariants as on_media
 use Rattle.script_types.specs.declared.steps.Step.TheVariants as step
 use Rattle.script_types.specs.Names.{called, taken_from}
-use Rattle.trace_text.specs.declared.run.Run.{Run}
-use Rattle.trace_text.specs.declared.run.CodecTrace.{CodecTrace}
+use Rattle.run_model.specs.declared.run.Run.{Run}
+use Rattle.run_model.specs.declared.run.CodecTrace.{CodecTrace}
 use Rattle.report_text.specs.declared.result.StepResult.{StepResult}
 use Rattle.report_text.specs.declared.result.StepResult.TheVariants as result
-use Rattle.trace_text.specs.Report.{refusal_in}
+use Rattle.codec_model.specs.declared.entry.Event.{Event}
+use Rattle.codec_model.specs.declared.entry.Event.TheVariants as event
 use Rattle.codec_accounts.specs.Owed.{at}
 use Rattle.codec_accounts.specs.Registry.{BoxesAccounted}
 use Rattle.codec_accounts.specs.Codec.{state_after}
@@ -32,7 +33,8 @@ use Rattle.wc_pool.specs.Bag.{held_in}
 use Rattle.wc_pool.specs.declared.entry.PoolOp.{PoolOp}
 use Rattle.media_variables.specs.Variables.{Medium, Came, Taken, Brought, Lendable, lendable_at, handed_of}
 use Rattle.media_accounts.specs.Accounts.{came_in, variables_in, lent_at, MediaAreIn}
-use Rattle.trace_text.specs.Follow.{Recorded, Course, record_of, opening_of, opening_at, steps_of, chunk_for, copied_chunk, output_at, source_error, promise_after, take_entry, order_items, Follows, nothing_yet}
+use Rattle.run_model.specs.Recorded.{Recorded, opening_of, opening_at, steps_of, chunk_for, copied_chunk, output_at, source_error, promise_after, take_entry}
+use Rattle.run_model.specs.Follow.{Course, record_of, order_items, Follows, nothing_yet}
 
 -- what a run recorded, without what its entries showed
 abbrev pub recorded_of : Run → Recorded
@@ -49,6 +51,11 @@ entry_in w k p = slice_get (at k w.codecs) p
 -- a caller's step
 abbrev pub step_in : ScriptData → ℕ → ℕ → Option Step
 step_in s c j = slice_get (steps_of s c) j
+
+-- the exception with which a call was refused, by what it showed: a refusal stands first
+abbrev pub refusal_in : List Event → Option DomError
+refusal_in (event.Refusal error ∷ events) = Some error
+refusal_in _ = None
 
 -- the exception that an entry shows, if it shows one
 abbrev pub exception_at : Opening → List Entry → ℕ → Option DomError
@@ -235,15 +242,8 @@ lends_in s w k place = lent_at (opening_at s k) (at k w.codecs) place
 abbrev pub MediaAreAccounted : ScriptData → List (List Chunk) → Run → Type 0
 MediaAreAccounted s media run = let w = recorded_of run in MediaAreIn (steps_of s) (brought_to s media w) (lends_in s w) (made_steps w) w.pool
 
--- All entries, results, pool entries and slot entries are those that following the script's order makes, item after item. `made` has the
--- ids of the coders that were handed in.
-pub record FollowsTheOrder (s : ScriptData) (media : List (List Chunk)) (made : List CoderId) (run : Run) : Type 0 where
-  -- how the callers, the codecs, the media and the registry stand in the end
-  pub course : Course
-  pub follows : Follows s media (order_items s) (nothing_yet s made) course
-  pub is_recorded : recorded_of run ≡ record_of course
-
--- `media` has the chunks of each of the script's chunk files.
+-- `media` has the chunks of each of the script's chunk files. Nothing is said of when each entry was made: a run of threads may
+-- fit as a replay does.
 pub record Fits (s : ScriptData) (media : List (List Chunk)) (made : List CoderId) (run : Run) : Type 0 where
   pub calls : CallsStandOnce s run
   pub looks : LooksAreBetween s run
@@ -251,6 +251,18 @@ pub record Fits (s : ScriptData) (media : List (List Chunk)) (made : List CoderI
   pub locals : LocalStepsAnswer s media run
   pub accounted : MediaAreAccounted s media run
   pub boxes : BoxesAreAccounted s made run
+
+-- All entries, results, pool entries and slot entries are those that following the script's order makes, item after item: so it is of a
+-- replay. `made` has the ids of the coders that were handed in.
+pub record FollowsTheOrder (s : ScriptData) (media : List (List Chunk)) (made : List CoderId) (run : Run) : Type 0 where
+  -- how the callers, the codecs, the media and the registry stand in the end
+  pub course : Course
+  pub follows : Follows s media (order_items s) (nothing_yet s made) course
+  pub is_recorded : recorded_of run ≡ record_of course
+
+-- a replay fits its script and follows its order
+pub record FitsInOrder (s : ScriptData) (media : List (List Chunk)) (made : List CoderId) (run : Run) : Type 0 where
+  pub fits : Fits s media made run
   pub follows : FollowsTheOrder s media made run
 
 -- A codec's history is legal for the script's opening, and shows what was recorded.

@@ -1,7 +1,7 @@
 // The steps of callers, and the chunks that they make or take from chunk files.
 ghost use Rattle.std.specs.Prelude.{◌≡◌, IfOk, slice_get};
 ghost use Rattle.codec_accounts.specs.Owed.{at};
-ghost use Rattle.trace_text.specs.Follow.{chunk_at, chunk_by, chunk_from, chunk_of, steps_of};
+ghost use Rattle.run_model.specs.Recorded.{chunk_at, chunk_by, chunk_from, chunk_of, steps_of};
 
 use script_types::{ChunkInit, ChunkSource, ScriptData, Step};
 use wc_base::{List, NoMemory};

@@ -1,6 +1,6 @@
 use Rattle.std.proofs.Common.{refl, sym}
-use Rattle.trace_text.proofs.Places.{steps_read, steps_past}
-use Rattle.trace_text.proofs.chunks.steps_of.Goals as goal
+use Rattle.run_model.proofs.Places.{steps_read, steps_past}
+use Rattle.run_model.proofs.chunks.steps_of.Goals as goal
 
 pub returns-in-Some : goal.returns-in-Some
 returns-in-Some c =

@@ -1,6 +1,6 @@
 use Rattle.std.proofs.Common.{sym, ◌∙◌}
 use Rattle.codec_accounts.specs.Places.{at_read, at_past}
-use Rattle.trace_text.proofs.chunks.chunks_of.Goals as goal
+use Rattle.run_model.proofs.chunks.chunks_of.Goals as goal
 
 pub returns-in-Some : goal.returns-in-Some
 returns-in-Some c =

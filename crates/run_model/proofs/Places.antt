@@ -3,7 +3,7 @@ use Rattle.std.proofs.Common.{ℕ, zero, suc, ◌≡◌, ◌<◌, ◌≤◌, Lis
 use Rattle.std.proofs.lemmas.Option.{slice_get_read, slice_get_past}
 use Rattle.std.specs.Prelude.{slice_get}
 use Rattle.script_types.specs.declared.{script.CallerItem.CallerItem, steps.Step.Step}
-use Rattle.trace_text.specs.Follow.{steps_in}
+use Rattle.run_model.specs.Recorded.{steps_in}
 
 abbrev steps_found : Option CallerItem → List Step
 steps_found None = []

@@ -1,7 +1,7 @@
 // What fits a script, said of single results and entries.
-ghost use Rattle.trace_text.specs.Fits.{CallsAreIn, MarksClimb};
-ghost use Rattle.trace_text.specs.Follow.{Recorded};
-ghost use Rattle.trace_text.specs.FitsLaws.{CallsByPlaces, OrderByPlaces};
+ghost use Rattle.run_model.specs.Fits.{CallsAreIn, MarksClimb};
+ghost use Rattle.run_model.specs.Recorded.{Recorded};
+ghost use Rattle.run_model.specs.FitsLaws.{CallsByPlaces, OrderByPlaces};
 ghost use Rattle.script_types.specs.declared.script.ScriptData.{ScriptData};
 
 /// A law: where calls stand once, the result of each call and of each take that found an output names its entry, and each
