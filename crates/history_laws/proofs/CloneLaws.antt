@@ -1,11 +1,11 @@
 -- By which entry a clone ends. All is counted: how often the clone waits, and is held by the running item.
 use Rattle.std.proofs.Common.{ℕ, zero, suc, ◌+◌, ◌≡◌, ◌≢◌, ◌<◌, ◌≤◌, ◌⊎◌, inl, inr, Bool, true, false, if◌then◌else◌, List, [], ◌∷◌, ◌++◌, Option, Some, None, option_map, option_and_then, unwrap_or, refl, ap, sym, subst, ◌∙◌, append-nil, append_assoc, arith}
 use Rattle.wc_base.specs.Options.{some_same}
-use Rattle.codec_model.specs.declared.entry.{Opening.Opening, Pair.Pair, Item.Item, Message.Message, Outcome.Outcome, Entry.Entry}
+use Rattle.codec_model.specs.declared.entry.{Pair.Pair, Item.Item, Message.Message, Outcome.Outcome, Entry.Entry}
 use Rattle.codec_model.specs.Control.{held_of}
-use Rattle.codec_model.specs.Replay.{State, opening_state, step, replay_from, replay}
-use Rattle.codec_model.specs.Held.{in_order, running_pairs, waiting_held, held_in, front_held, behind_held, items_held, messages_held, lets_go, adds_held, is_done, is_removal, HeldStays, HeldMoves}
-use Rattle.history_laws.specs.Clones.{is_same, times, is_start, Deed, deed, deeds_from, deeds, made_at, begun_at, ended_at, ends_item_at, removes_at, number_at, IsEndOfItem, IsRemovalBefore, IsKept, EndsOnce, ClonesByPlaces}
+use Rattle.codec_model.specs.Replay.{State, opening_state, step, replay_from}
+use Rattle.codec_model.specs.Held.{in_order, running_pairs, waiting_held, held_in, front_held, behind_held, items_held, messages_held, adds_held, is_removal, HeldStays, HeldMoves}
+use Rattle.history_laws.specs.Clones.{is_same, times, Deed, deed, deeds_from, deeds, made_at, begun_at, ended_at, ends_item_at, removes_at, IsEndOfItem, IsRemovalBefore, IsKept, EndsOnce, ClonesByPlaces}
 
 -- ---- counts
 
