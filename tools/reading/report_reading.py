@@ -24,7 +24,7 @@ CODERS = {role + ":" + codec for role in ("decode", "encode") for codec in list(
 MOST = 2**64 - 1
 
 RESULTS = [
-    ("local", ERROR), ("ok", "ok"), ("absent", "absent"), ("call", rf"{NAME}\.{NUMBER} (?:ok|{ERROR})"),
+    ("local", ERROR), ("ok", "ok"), ("absent", "absent"), ("nothing", "none"), ("from", rf"from {NAME}\.{NUMBER}"), ("call", rf"{NAME}\.{NUMBER} (?:ok|{ERROR})"),
     ("look", rf"{NAME}:{NUMBER} (pending|resolved|rejected {ERROR})"), ("state", rf"{NAME}:{NUMBER} (unconfigured|configured|closed) {NUMBER}"),
     ("unit", rf"{NAME}\.{NUMBER} unit {NUMBER}"), ("none", rf"{NAME}:{NUMBER} none"), ("size", rf"size {NUMBER}"),
     ("copied", rf"copied {NUMBER} {HEX}"), ("frame", rf"copied {NUMBER} ({NUMBER}:{NUMBER},{NUMBER}:{NUMBER}(?:,{NUMBER}:{NUMBER})?) {HEX}"),
@@ -151,8 +151,12 @@ class Reading:
             self.bad("this is no result")
         if name in ("local", "ok"):
             return ("local", parts[0] if parts else None)
-        if name == "absent":
-            return ("absent",)
+        if name in ("absent", "nothing"):
+            return (name,)
+        if name == "from":
+            if parts[0] not in self.script.caller_numbers:
+                self.bad("no caller has this name")
+            return ("from", self.script.caller_numbers[parts[0]], int(parts[1]))
         if name == "size":
             return ("size", int(parts[0]))
         if name == "copied":
@@ -235,14 +239,26 @@ class Reading:
         self.given = [{} for _ in self.script.callers]
         self.answers = [{} for _ in self.script.callers]
         self.wanted_pool = [[] for _ in self.script.callers]
-        for c, (_, steps) in enumerate(self.script.callers):
-            own = {}
-            for entry in self.run.pool:
-                if entry[0][:2] == ("caller", c):
-                    own.setdefault(entry[0][2], []).append(entry)
-            pool, values = _OwnPool(own, self.wanted_pool[c]), {}
-            for j in range(min(len(self.run.results[c]), len(steps))):
-                self.step(c, j, steps[j], values, pool)
+        self.posted, self.received = {}, set()
+        own = [{} for _ in self.script.callers]
+        for entry in self.run.pool:
+            if entry[0][0] == "caller":
+                own[entry[0][1]].setdefault(entry[0][2], []).append(entry)
+        pools, values = [_OwnPool(it, wanted) for it, wanted in zip(own, self.wanted_pool)], [{} for _ in own]
+        done, waits_no_more = [0] * len(own), False
+        # A caller waits at a receive until the post that it names was read.
+        while True:
+            moved = False
+            for c, (_, steps) in enumerate(self.script.callers):
+                while done[c] < min(len(self.run.results[c]), len(steps)):
+                    found = self.run.results[c][done[c]]
+                    if steps[done[c]]["do"] == "receive" and found[0] == "from" and found[1:] not in self.posted and not waits_no_more:
+                        break
+                    self.step(c, done[c], steps[done[c]], values[c], pools[c])
+                    done[c], moved = done[c] + 1, True
+            if not moved and waits_no_more:
+                break
+            waits_no_more = not moved
 
     def step(self, c, j, step, values, pool):
         do, bound = step["do"], self.script.bound[c][j]
@@ -257,6 +273,18 @@ class Reading:
             if found[0] == "unit" and found[1] == k and found[3] < len(self.shown[k]):
                 unit = self.shown[k][found[3]][1]
                 values[j] = unit[1:5] if unit[0] == "chunk" else Held(unit, pool.make(("caller", c, j)))
+        elif do == "post":
+            held = values.get(bound["data"])
+            if held is None or held.pair is None:
+                self.answers[c][j] = ("absent",) if held is None else ("local", "DataCloneError")
+            else:
+                self.answers[c][j] = ("local", None)
+                self.posted[c, j] = (step["to"], Held(held.unit, held.pair))
+                held.pair = None
+        elif do == "receive":
+            if found[0] == "from" and self.posted.get(found[1:], (None, None))[0] == step["from"] and found[1:] not in self.received:
+                self.received.add(found[1:])
+                values[j] = self.posted[found[1:]][1]
         elif do not in ("configure", "flush", "reset", "close", "ground", "poll", "await", "state"):
             self.answers[c][j] = local_answer(self.script, c, j, values, pool, ("caller", c, j))
 
@@ -464,6 +492,8 @@ def check_calls(reading, known):
                 need(r[0] == "look", where + " looks at a promise")
             elif do == "state":
                 need(r[0] == "state" and r[1] == k, where + " looks at a state")
+            elif do == "receive":
+                need(r[0] in ("from", "nothing"), where + " receives")
             else:
                 need(r == reading.answers[c][j], where + " has another answer")
             if r[0] in ("call", "unit"):
@@ -499,6 +529,30 @@ def check_look(reading, known, c, j, r, where):
         taken = sum(1 for e, _, _ in reading.run.entries[k][:length] if e[0] == "call" and e[2] == "take")
         shown = sum(1 for _, s, _ in reading.run.entries[k][:length] for e in s if e[0] == "output")
         need(taken == shown, where + " saw no output")
+
+
+def check_ports(reading):
+    """A receive gets what one post gave, each once, and the posts of each caller from the first on and in order."""
+    script, run = reading.script, reading.run
+    for port in script.port_numbers:
+        named = {}
+        for c, (name, steps) in enumerate(script.callers):
+            last = {}
+            for j, r in enumerate(run.results[c]):
+                step, where = steps[j], "step %d of %s" % (j, name)
+                if step["do"] != "receive" or step["from"] != port:
+                    continue
+                if r[0] == "from":
+                    need(reading.posted.get(r[1:], (None,))[0] == port and r[1:] not in named, where + " names no post of this port, or one that was got")
+                    need(last.get(r[1], -1) < r[2], where + " gets posts out of order")
+                    named[r[1:]], last[r[1]] = (c, j), r[2]
+        for c, (name, steps) in enumerate(script.callers):
+            posts = sorted(it for it, (to, _) in reading.posted.items() if it[0] == c and to == port)
+            got = [it in named for it in posts]
+            need(got == sorted(got, reverse=True), "a later post of %s was got before an earlier one" % name)
+            for j, r in enumerate(run.results[c]):
+                if steps[j]["do"] == "receive" and steps[j]["from"] == port and r[0] == "nothing":
+                    need(all(it in named for it in posts if it[1] < j), "step %d of %s found nothing, though its own post waited" % (j, name))
 
 
 def check_media(reading, known):
@@ -596,6 +650,7 @@ def verdict(script, text):
         try:
             need(reading.run.held == pool.held(), "another number of media is held")
             check_calls(reading, known)
+            check_ports(reading)
             check_media(reading, known)
             refusals = check_boxes(reading, known, script.order is not None)
             check_quiet(reading, known, refusals) if script.order is None else check_order(reading)

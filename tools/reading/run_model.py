@@ -72,27 +72,36 @@ def config_of(kind, obj):
         return None
 
 
-def chunk_of(init):
+def content(init, buffers):
+    """The bytes of an init's data: hex, or those of a buffer; a detached one has none."""
+    data = text(init, "data")
+    if isinstance(data, str):
+        return bytes.fromhex(data)
+    held = buffers[data["buffer"]]
+    return held.unit[1] if held.pair is not None else b""
+
+
+def chunk_of(init, buffers):
     kind = word(init, "type", ("key", "delta"))
     timestamp, duration = number(init, "timestamp", U53, least=-U53), number(init, "duration", U53, needed=False)
-    return (kind == "key", timestamp, duration, bytes.fromhex(text(init, "data")))
+    return (kind == "key", timestamp, duration, content(init, buffers))
 
 
-def sound_of(init):
+def sound_of(init, buffers):
     form = word(init, "format", FORMATS)
     rate, frames, channels = (number(init, it, U32) for it in ("sampleRate", "numberOfFrames", "numberOfChannels"))
-    timestamp, data = number(init, "timestamp", U53, least=-U53), bytes.fromhex(text(init, "data"))
+    timestamp, data = number(init, "timestamp", U53, least=-U53), content(init, buffers)
     size = frames * channels * definitions.SAMPLE_BYTES[definitions.plain(form)]
     if not rate or not frames or not channels or len(data) < size:
         raise Fault("TypeError")
     return ("audio", form, rate, channels, frames, timestamp, data[:size])
 
 
-def picture_of(init):
+def picture_of(init, buffers):
     form = word(init, "format", ("I420", "I422", "I444", "NV12"))
     width, height = number(init, "codedWidth", U32), number(init, "codedHeight", U32)
     timestamp, duration = number(init, "timestamp", U53, least=-U53), number(init, "duration", U53, needed=False)
-    data = bytes.fromhex(text(init, "data"))
+    data = content(init, buffers)
     if not width or not height or len(data) < definitions.picture_bytes(form, width, height):
         raise Fault("TypeError")
     return ("video", form, width, height, timestamp, duration, data[:definitions.picture_bytes(form, width, height)])
@@ -168,11 +177,16 @@ class Script:
         self.codec_numbers = {it[0]: i for i, it in enumerate(self.codecs)}
         self.caller_numbers = {it[0]: i for i, it in enumerate(self.callers)}
         self.order, self.boxes, self.media = self.value.get("order"), boxes or {}, {}
+        self.port_numbers = {it["name"]: i for i, it in enumerate(self.value.get("ports", []))}
         self.bound = []
         for _, steps in self.callers:
             names, bound = {}, []
             for j, step in enumerate(steps):
-                bound.append({it: names[step[it]] for it in ("chunk", "data", "of", "promise") if isinstance(step.get(it), str) and step[it] in names})
+                found = {it: names[step[it]] for it in ("chunk", "data", "of", "promise") if isinstance(step.get(it), str) and step[it] in names}
+                init = step.get("init", {})
+                used = list(init.get("transfer", [])) + ([init["data"]["buffer"]] if isinstance(init.get("data"), dict) else [])
+                found["buffers"] = {it: names[it] for it in used}
+                bound.append(found)
                 if "as" in step:
                     names[step["as"]] = j
             self.bound.append(bound)
@@ -186,9 +200,9 @@ class Script:
     def made(self, name):
         return self.boxes.get(name, BOXES)
 
-    def source(self, step):
+    def source(self, step, buffers):
         """The chunk of a `chunk` step; a fault where its init breaks a rule."""
-        return self.chunks(step["file"])[step["index"]] if "file" in step else chunk_of(step["init"])
+        return self.chunks(step["file"])[step["index"]] if "file" in step else chunk_of(step["init"], buffers)
 
     def config(self, k, step):
         return config_of(self.codecs[k][1], step["config"])
@@ -246,12 +260,11 @@ def local_answer(script, c, j, values, pool, who):
     step, bound = script.callers[c][1][j], script.bound[c][j]
     do = step["do"]
     try:
-        if do == "chunk":
-            values[j] = script.source(step)
+        if do == "buffer":
+            values[j] = Held(("buffer", bytes.fromhex(step["data"])), pool.make(who))
             return ("local", None)
-        if do in ("audio", "frame"):
-            unit = (sound_of if do == "audio" else picture_of)(step["init"])
-            values[j] = Held(unit, pool.make(who))
+        if do in ("chunk", "audio", "frame"):
+            values[j] = made(script, step, {name: values[at] for name, at in bound["buffers"].items()}, pool, who)
             return ("local", None)
         held = values.get(bound["of"])
         if held is None:
@@ -275,6 +288,31 @@ def local_answer(script, c, j, values, pool, who):
         return ("local", fault.name)
 
 
+def made(script, step, buffers, pool, who):
+    """What a step makes: a chunk, or a medium that takes over its data's buffer where its list names it."""
+    init, do = step.get("init", {}), step["do"]
+    if do == "chunk":
+        value = script.source(step, buffers)
+    else:
+        unit = (sound_of if do == "audio" else picture_of)(init, buffers)
+    listed = [buffers[name] for name in init.get("transfer", [])]
+    if any(it.pair is None for it in listed) or len(set(map(id, listed))) < len(listed):
+        raise Fault("DataCloneError")
+    own = None
+    if do != "chunk":
+        data = init["data"]
+        own = buffers[data["buffer"]] if isinstance(data, dict) else None
+        if own in listed:
+            value, own.pair = Held(unit, own.pair), None
+        else:
+            value, own = Held(unit, pool.make(who)), None
+    for held in listed:
+        if held is not own:
+            pool.end(who, held.pair)
+            held.pair = None
+    return value
+
+
 def copy_answer(step, held):
     """The answer of a copy or a size."""
     if isinstance(held, tuple):
@@ -282,6 +320,8 @@ def copy_answer(step, held):
         if step["size"] < len(data):
             raise Fault("TypeError")
         return ("copied", len(data), None, data + bytes(step["size"] - len(data)))
+    if held.unit[0] == "buffer":
+        return ("size", len(held.unit[1]) if held.pair is not None else 0)
     options, is_sound = step.get("options", {}), held.unit[0] == "audio"
     options = (sound_options if is_sound else picture_options)(options)
     if held.pair is None:
@@ -343,7 +383,7 @@ class Replay:
         self.codecs = [Codec(kind, saturation) for _, kind, saturation in script.codecs]
         self.values, self.pool, self.slots = [{} for _ in script.callers], Pool(), Registry(script.made)
         self.boxes, self.refused = [None] * len(self.codecs), [None] * len(self.codecs)
-        self.made = [0] * len(script.callers)
+        self.made, self.ports = [0] * len(script.callers), [[] for _ in script.port_numbers]
         for item in script.order:
             self.item(item)
         self.run.pool, self.run.slots, self.run.held = self.pool.entries, self.slots.entries, self.pool.held()
@@ -451,6 +491,10 @@ class Replay:
             return ("state", k, self.codecs[k].places, self.codecs[k].phase, self.codecs[k].size)
         if do == "take":
             return self.take(c, j, k)
+        if do == "post":
+            return self.post(c, j, values.get(bound["data"]), self.ports[self.script.port_numbers[step["to"]]])
+        if do == "receive":
+            return self.receive(values, j, self.ports[self.script.port_numbers[step["from"]]])
         return local_answer(self.script, c, j, values, self.pool, who)
 
     def encode(self, c, j, k, held):
@@ -462,6 +506,21 @@ class Replay:
             return self.call(c, j, k, "encode", ("kept",))
         pair = self.pool.clone(("codec", k, self.codecs[k].places), held.pair[0])
         return self.call(c, j, k, "encode", ("cloned", held.unit) + pair)
+
+    def post(self, c, j, held, port):
+        if held is None:
+            return ("absent",)
+        if held.pair is None:
+            return ("local", "DataCloneError")
+        port.append(((c, j), Held(held.unit, held.pair)))
+        held.pair = None
+        return ("local", None)
+
+    def receive(self, values, j, port):
+        if not port:
+            return ("nothing",)
+        who, values[j] = port.pop(0)
+        return ("from",) + who
 
     def take(self, c, j, k):
         codec = self.codecs[k]
@@ -561,6 +620,10 @@ def result_line(script, j, r):
         return "%d %s none" % (j, at(":"))
     if r[0] == "size":
         return "%d size %d" % (j, r[1])
+    if r[0] == "from":
+        return "%d from %s.%d" % (j, script.callers[r[1]][0], r[2])
+    if r[0] == "nothing":
+        return "%d none" % j
     if r[0] == "copied":
         layout = "" if r[2] is None else ",".join("%d:%d" % it for it in r[2]) + " "
         return "%d copied %d %s%s" % (j, r[1], layout, dash(r[3]))
