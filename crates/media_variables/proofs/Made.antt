@@ -23,7 +23,7 @@ use Rattle.report_text.specs.declared.result.StepResult.{StepResult}
 use Rattle.report_text.specs.declared.result.StepResult.TheVariants as result
 use Rattle.media_variables.specs.declared.given.Given.{Given}
 use Rattle.media_variables.specs.declared.medium.Kind.TheVariants as kind
-use Rattle.media_variables.specs.Variables.{Reference, Shape, SoundOf, PictureOf, Medium, Numbers, chunk_medium, entry_of, refused}
+use Rattle.media_variables.specs.Variables.{Shape, SoundOf, PictureOf, Medium, Numbers, chunk_medium, refused}
 use Rattle.media_variables.specs.Held.{WholeMedium, reference_of, whole_of, seen}
 use Rattle.media_variables.specs.Given.{Done, Does, Gives, gives_nothing, made_done, with_answer, audio_done, frame_done, taken_done, cloned_done, clone_done, closed_op}
 

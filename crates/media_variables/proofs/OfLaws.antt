@@ -1,13 +1,13 @@
 -- The references that one caller's variables hold are of their pool.
-use Rattle.std.proofs.Common.{ℕ, zero, suc, ◌≡◌, ◌≢◌, ◌<◌, ◌≤◌, ◌⊎◌, inl, inr, List, [], ◌∷◌, length, get_or, Option, Some, None, refl, ap, sym, subst, ◌∙◌}
-use Rattle.std.specs.Prelude.{slice_set, option_map, option_and_then, IfSome}
+use Rattle.std.proofs.Common.{ℕ, zero, suc, ◌≡◌, ◌≢◌, ◌<◌, inl, inr, List, [], ◌∷◌, length, get_or, Option, Some, None, refl, ap, sym, subst, ◌∙◌}
+use Rattle.std.specs.Prelude.{slice_set, option_map, IfSome}
 use Rattle.std.proofs.lemmas.Bool.{cases_eq}
 use Rattle.wc_pool.specs.declared.reference.MediaRef.{MediaRef}
-use Rattle.wc_pool.specs.Pools.{KeepsAll, KeepsOthers}
+use Rattle.wc_pool.specs.Pools.{KeepsAll}
 use Rattle.wc_audio.specs.Sound.{KeepsButHeld}
 use Rattle.media_variables.specs.declared.given.Given.{Given}
-use Rattle.media_variables.specs.Variables.{Reference, Medium, medium_at, with_medium}
-use Rattle.media_variables.specs.Held.{WholeMedium, AreOf, AreOnce, StayOf, reference_of, seen, seen_in, without_reference, whole_held, held_by}
+use Rattle.media_variables.specs.Variables.{medium_at, with_medium}
+use Rattle.media_variables.specs.Held.{WholeMedium, AreOf, StayOf, reference_of, seen, seen_in, without_reference, whole_held, held_by}
 use Rattle.media_variables.specs.Given.{changed_at, given_to, transferred, transferred_at}
 use Rattle.media_variables.proofs.Places.{medium_read, medium_here, medium_else, changed_here, changed_else, seen_at}
 

@@ -21,7 +21,7 @@ use Rattle.script_types.specs.declared.steps.MediaStep.{MediaStep}
 use Rattle.script_types.specs.declared.steps.MediaStep.TheVariants as media
 use Rattle.report_text.specs.declared.result.StepResult.{StepResult}
 use Rattle.report_text.specs.declared.result.StepResult.TheVariants as result
-use Rattle.media_variables.specs.Variables.{Reference, Shape, SoundOf, PictureOf, Medium, Numbers, Came, Taken, Brought, medium_at, only_answers, refused, makes, clone_held, transfer_held, close_held, if_there, copy_chunk, chunk_of_variable, copy_medium, size_of_medium, copy_came, unit_came, taken_came, media_came}
+use Rattle.media_variables.specs.Variables.{Reference, Shape, SoundOf, PictureOf, Medium, Numbers, Came, Taken, Brought, medium_at, only_answers, refused, makes, clone_held, transfer_held, close_held, if_there, copy_chunk, chunk_of_variable, copy_medium, size_of_medium, unit_came, taken_came, media_came}
 
 -- What has to be shown of each kind of step.
 pub record EachCame (n : Numbers) (who : Who) (b : Brought) (vs : List (Option Medium)) (P : MediaStep → Came → Type 0) : Type 0 where

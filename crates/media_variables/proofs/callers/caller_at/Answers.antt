@@ -1,4 +1,4 @@
-use Rattle.std.proofs.Common.{ℕ, ◌≤◌, length, map, sym, subst}
+use Rattle.std.proofs.Common.{ℕ, ◌≤◌, map, sym, subst}
 use Rattle.std.proofs.lemmas.List.{length-map}
 use Rattle.media_variables.specs.Held.{seen_in}
 use Rattle.media_variables.proofs.Places.{seen_read, variables_past}

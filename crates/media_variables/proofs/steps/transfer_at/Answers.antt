@@ -1,5 +1,5 @@
-use Rattle.std.proofs.Common.{◌≤◌, ◌<◌, ◌∙◌, Option, length, refl, sym, ap, arith}
-use Rattle.media_variables.specs.Held.{WholeMedium, without_reference}
+use Rattle.std.proofs.Common.{◌≤◌, ◌<◌, ◌∙◌, length, refl, sym, ap, arith}
+use Rattle.media_variables.specs.Held.{without_reference}
 use Rattle.media_variables.specs.Given.{transferred_at}
 use Rattle.media_variables.proofs.Places.{medium_past, medium_read, changed_there, changed_past}
 use Rattle.media_variables.proofs.StepLaws.{not_there}

@@ -1,6 +1,6 @@
-use Rattle.std.proofs.Common.{◌∙◌, List, Option, refl, ap, sym, subst}
+use Rattle.std.proofs.Common.{◌∙◌, List, Option, refl, ap}
 use Rattle.media_variables.specs.Variables.{medium_at}
-use Rattle.media_variables.specs.Held.{WholeMedium, AreOf, without_reference}
+use Rattle.media_variables.specs.Held.{WholeMedium, without_reference}
 use Rattle.media_variables.specs.Given.{changed_at, given_to, transferred_at}
 use Rattle.media_variables.proofs.OfLaws.{transfer_of}
 use Rattle.media_variables.proofs.StepLaws.{transfer_acts}
