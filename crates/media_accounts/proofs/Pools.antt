@@ -5,7 +5,7 @@ use Rattle.std.proofs.lemmas.Bool.{and_parts, and_from, cases_eq, eqb-true, eq-e
 use Rattle.wc_base.specs.declared.who.By.{By}
 use Rattle.wc_pool.specs.{declared.entry.PoolEntry.PoolEntry, declared.entry.PoolOp.PoolOp, Bag.is_legal_next, Bag.is_legal_from}
 use Rattle.media_variables.specs.Variables.{Came}
-use Rattle.media_accounts.specs.Accounts.{StepOp, is_by_step, ops_where, ops_by, done_by, step_op, own_by, own_in, own_of}
+use Rattle.media_accounts.specs.Accounts.{StepOp, ops_where, done_by, step_op, own_by, own_in, own_of}
 
 -- ---- lists
 
