@@ -1,4 +1,4 @@
-use Rattle.std.proofs.Common.{ℕ, zero, suc, ◌≡◌, ◌+◌, List, [], ◌∷◌, Option, Some, drop, slice_get, refl, sym, ap, ◌∙◌, arith}
+use Rattle.std.proofs.Common.{refl, sym}
 use Rattle.trace_text.proofs.LinesLaws.{dropped_at}
 use Rattle.trace_text.proofs.numbered.NumberedIn.next.Goals as goal
 
