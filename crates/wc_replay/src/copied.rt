@@ -3,8 +3,8 @@ ghost use Rattle.std.specs.Prelude.{◌≡◌, IfOk};
 ghost use Rattle.media_variables.specs.Variables.{chunk_in};
 ghost use Rattle.run_model.specs.Recorded.{copied_chunk};
 
-use script_types::{MediaStep, Options, Step};
 use run_model::find_chunk;
+use script_types::{MediaStep, Options, Step};
 use wc_base::{List, NoMemory};
 use wc_chunk::Chunk;
 

@@ -4,8 +4,8 @@ ghost use Rattle.script_types.specs.declared.script.CallerItem.{CallerItem};
 ghost use Rattle.run_model.specs.Missing.{missing_in};
 ghost use Rattle.run_model.specs.Missing as spec;
 
-use script_types::{CallerItem, ChunkSource, Place, Script, Step};
 use run_model::chunks_of;
+use script_types::{CallerItem, ChunkSource, Place, Script, Step};
 use wc_base::List;
 use wc_chunk::Chunk;
 

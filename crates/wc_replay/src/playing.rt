@@ -14,10 +14,10 @@ use codec_model::Opening;
 use coder_api::Coder;
 use media_variables::CallerMedia;
 use order_laws::{following_fits, following_stands};
+use run_model::{CallerTrace, CodecTrace, Run};
 use script_types::{CallerItem, CodecItem, OrderItem, Script, ScriptData};
 use slot_registry::Slots;
 use std::alloc::Global;
-use run_model::{CallerTrace, CodecTrace, Run};
 use wc_base::{List, NoMemory, try_push};
 use wc_chunk::Chunk;
 

@@ -2,9 +2,9 @@
 ghost use Rattle.std.specs.Prelude.{◌≡◌, [], ◌∷◌, ◌++◌, OnOk, IfOk, length, slice_get, option_copied, map};
 ghost use Rattle.codec_accounts.specs.Owed.{at, append_at};
 
+use run_model::StepResult;
 use std::alloc::Global;
 use std::marker::Model;
-use run_model::StepResult;
 use wc_base::{NoMemory, try_push};
 
 /// The results of one caller's steps so far.

@@ -28,11 +28,11 @@ use crate::results::{Results, made_by, note, result_of};
 use codec_model::{Call, Handed, PromiseState};
 use coder_api::Coder;
 use media_variables::{CallerMedia, MediumFound};
+use run_model::{StepResult, find_chunk, steps_of};
 use script_types::{ChunkSource, MediaStep, OrderItem, ScriptData, Step};
 use slot_registry::Slots;
 use std::alloc::Global;
 use std::marker::Model;
-use run_model::{StepResult, find_chunk, steps_of};
 use wc_base::{By, DomError, List, NoMemory, Who};
 use wc_chunk::Chunk;
 
