@@ -12,7 +12,7 @@ use Rattle.std.proofs.lemmas.List.Sums.{position_or_len_is}
 use Rattle.std.proofs.lemmas.Option.{slice_get-get_or}
 use Rattle.std.proofs.lemmas.Slice.Eq.{bytes_eq-Decides}
 use Rattle.hex.specs.Hex.{IsBytes}
-use Rattle.wc_base.specs.declared.{error.DomError.DomError, who.By.By, media.SoundShape.SoundShape}
+use Rattle.wc_base.specs.declared.{error.DomError.DomError, who.By.By, who.Who.Who, media.SoundShape.SoundShape}
 use Rattle.wc_config.specs.declared.codec.CoderId.{CoderId}
 use Rattle.wc_video.specs.declared.layout.{PlaneLayout.PlaneLayout, Layouts.Layouts}
 use Rattle.wc_pool.specs.declared.entry.PoolOp.{PoolOp}
@@ -202,10 +202,20 @@ call_alone : (c : CallWord) (u v w x y z : Option Line)
     → cond (is_slot_word (call_word c)) v (cond (is_pool_word (call_word c)) w (cond (bytes_eq (call_word c) (codes "unit")) x (cond (bytes_eq (call_word c) (codes "take")) y (cond (bytes_eq (call_word c) (codes "ground")) u z)))) ≡ z
 call_alone c u v w x y z = grind arith
 
+call_read : (script : ScriptData) (place step : ℕ) (name : List ℕ) (c : CallWord) (rest : List ℕ) → step < 2 ^ 64 → dotted_line_at script place name (decimal step ++ 32 ∷ (call_word c ++ 32 ∷ rest)) ≡ call_at script place name step (call_word c) rest
+unfolding dotted_line_at
+call_read script place step name c rest lt = rw (number_again 32 step (call_word c ++ 32 ∷ rest) lt refl, word_again 32 (call_word c) rest (calls.word c) refl) (call_alone c _ _ _ _ _ _)
+
+call_again : (script : ScriptData) (place : ℕ) (who : Who) (c : CallWord) (e : Option DomError) (rest : List ℕ) → AreNames script → place < 2 ^ 64 → FitsEntryLine script (EntryLine.Call who c e)
+    → only_line_at script (numbered_line place (entry_text script.callers (EntryLine.Call who c e)) ++ rest) ≡ Some (Line.Entry place (EntryLine.Call who c e))
+unfolding only_line_at numbered_line_at call_at
+call_again script place who c e rest names lt fits = search (fields, call_read, calls.again, answer_at_again, caller_again script, short_is, wide, names.callers_are_words) depth 20
+
 entry_again : (script : ScriptData) (place : ℕ) (e : EntryLine) (rest : List ℕ) → AreNames script → place < 2 ^ 64 → FitsEntryLine script e → only_line_at script (numbered_line place (entry_text script.callers e) ++ rest) ≡ Some (Line.Entry place e)
-unfolding only_line_at numbered_line_at dotted_line_at call_at take_at ground_at worded_line_at start_at done_at
+unfolding only_line_at numbered_line_at dotted_line_at take_at ground_at worded_line_at start_at done_at
+entry_again script place (EntryLine.Call who word error) rest names lt fits = call_again script place who word error rest names lt fits
 entry_again script place (EntryLine.Reclaim moment) rest names lt fits = search fields depth 20
-entry_again script place _ rest names lt fits = search (fields, calls.word, calls.again, call_alone, grounds.word, grounds.again, answer_at_again, outcome_again, turn_again, caller_again script, short_is, wide, names.callers_are_words) depth 20
+entry_again script place _ rest names lt fits = search (fields, grounds.word, grounds.again, outcome_again, turn_again, caller_again script, short_is, wide, names.callers_are_words) depth 20
 
 -- ---- entries of the registry and of the pool of media
 
