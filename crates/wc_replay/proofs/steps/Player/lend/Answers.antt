@@ -1,12 +1,11 @@
-use Rattle.std.proofs.Common.{ℕ, ◌≡◌, ◌++◌, ◌∷◌, [], false, true, Option, None, ap, sym, subst, length, ◌∙◌}
-use Rattle.std.specs.Prelude.{IfSome, option_map}
+use Rattle.std.proofs.Common.{ℕ, ◌≡◌, ◌++◌, ◌∷◌, [], false, Option, None, ap, sym, subst, length, ◌∙◌}
+use Rattle.std.specs.Prelude.{option_map}
 use Rattle.std.proofs.lemmas.Result.{on_ok_weaker}
 use Rattle.wc_base.specs.declared.who.By.{By}
 use Rattle.codec_accounts.specs.{Codec.codec_at, Codec.state_of, Codec.next_by, Codec.IsGivable, Owed.append_at}
 use Rattle.codec_model.specs.declared.entry.{Call.Call, Handed.Handed, HeldMedium.HeldMedium, Pair.Pair}
 use Rattle.codec_model.specs.Replay.{encode_error}
-use Rattle.wc_pool.specs.Bag.{references_made}
-use Rattle.media_variables.specs.{declared.lending.MediumFound.MediumFound, Variables.handed_of, Variables.lendable_at, Variables.variables_of}
+use Rattle.media_variables.specs.{declared.lending.MediumFound.MediumFound, Variables.lendable_at, Variables.variables_of}
 use Rattle.media_variables.specs.Held.{clones_of, pair_of, medium_found}
 use Rattle.report_text.specs.declared.result.StepResult.{StepResult}
 use Rattle.run_model.specs.Follow.{Course, after_move, call_move, encode_of}
