@@ -11,8 +11,8 @@ use crate::tables::{Tables, is_ended, pair_at};
 use codec_model::{Call, Content, Entry, Handed, HeldMedium, Pair};
 use coder_api::Unit;
 use report_text::{CallWord, EntryLine};
-use script_types::{MediaStep, ScriptData, Step};
 use run_model::{find_chunk, steps_of};
+use script_types::{MediaStep, ScriptData, Step};
 use wc_base::{DomError, Ground, List, NoMemory, Who};
 use wc_chunk::Chunk;
 

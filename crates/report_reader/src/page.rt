@@ -2,9 +2,9 @@
 ghost use Rattle.std.specs.Prelude.{◌≡◌, IfOk, Some};
 ghost use Rattle.trace_text.specs.Report.{report_of};
 
+use run_model::Run;
 use script_types::Script;
 use std::alloc::Global;
-use run_model::Run;
 use trace_text::write_report;
 use wc_base::{Failed, NoMemory, Sink};
 

@@ -12,9 +12,9 @@ use crate::page::report_text;
 use crate::reading::read_forms;
 use crate::run::run_of;
 use report_lines::{lines_are_read_again, lines_that_are_read_fit};
+use run_model::Run;
 use script_types::Script;
 use std::alloc::Global;
-use run_model::Run;
 use wc_base::List;
 use wc_chunk::Chunk;
 

@@ -9,9 +9,9 @@ use crate::known::Known;
 use crate::tables::tables_of;
 use crate::trace::codecs_of;
 use report_text::Line;
+use run_model::Run;
 use script_types::ScriptData;
 use std::alloc::Global;
-use run_model::Run;
 use wc_base::{List, NoMemory};
 use wc_chunk::Chunk;
 

@@ -9,10 +9,10 @@ ghost use Rattle.report_reader.specs.Tables.{key_cmp, first_named, end_of, is_be
 
 use crate::known::{Known, is_ok, results_at};
 use codec_model::Pair;
+use run_model::{CallerTrace, StepResult};
 use script_types::{MediaStep, ScriptData, Step};
 use std::alloc::Global;
 use std::collections::BTreeMap;
-use run_model::{CallerTrace, StepResult};
 use wc_base::{By, NoMemory};
 use wc_pool::{PoolEntry, PoolOp};
 

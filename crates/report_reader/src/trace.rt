@@ -15,10 +15,10 @@ use codec_follow::{Follower, empty_output};
 use codec_model::{Entry, Event, Kind, Opening, Shown, TurnWord};
 use coder_api::Unit;
 use report_text::{EntryLine, Line};
+use run_model::CodecTrace;
 use script_types::ScriptData;
 use segmented_list::{SegmentedList, SegmentedVec};
 use std::alloc::Global;
-use run_model::CodecTrace;
 use wc_base::{List, NoMemory};
 use wc_chunk::Chunk;
 

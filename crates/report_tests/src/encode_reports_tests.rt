@@ -2,11 +2,11 @@
 // and written again; and texts with a fault at a line that was counted by hand.
 use codec_model::{Call, Entry, Handed, HeldMedium, Pair};
 use report_reader::{ReportFault, read_report};
+use run_model::{CodecTrace, Run};
 use script_types::Script;
 use std::alloc::Global;
 use std::process::Abort;
 use std::test::Fail;
-use run_model::{CodecTrace, Run};
 use trace_text::write_report;
 use wc_base::{MemSink, Who};
 use wc_script::read_script;

@@ -11,6 +11,7 @@ ghost use Rattle.row_tests.specs.ReportRows.{init, steps_with, takes};
 use bytes::Bytes;
 use codec_model::{Call, Entry};
 use report_reader::{ReportFault, read_report};
+use run_model::{Run, StepResult};
 use script_types::{
     CallerItem, ChunkInit, ChunkSource, CodecItem, Kind, MediaStep, Script, ScriptData, Step,
     Variable, VariableKind,
@@ -18,7 +19,6 @@ use script_types::{
 use std::alloc::Global;
 use std::process::Abort;
 use std::test::Fail;
-use run_model::{Run, StepResult};
 use trace_text::write_report;
 use wc_base::{By, List, MemSink, Text, Who};
 use wc_config::{AudioDecoderConfig, Config};

@@ -7,11 +7,11 @@ use codec_model::{
     Call, CodecState, Entry, Event, Kind, Opening, Outcome, PromiseState, Shown, TurnWord,
 };
 use coder_api::{SlotEntry, SlotOp, Unit};
+use run_model::{CallerTrace, CodecTrace, Run, StepResult};
 use script_types::{CallerItem, CodecItem, Script, ScriptData};
 use segmented_list::{SegmentedList, SegmentedVec};
 use std::alloc::Global;
 use std::test::Fail;
-use run_model::{CallerTrace, CodecTrace, Run, StepResult};
 use trace_text::{WriteFault, write_report};
 use wc_base::{
     By, DomError, List, MemSink, Picture, PictureFormat, PictureShape, SampleFormat, Samples,

@@ -8,13 +8,13 @@ ghost use Rattle.row_tests.specs.ReportRows.{order, other, steps_with, file_scri
 use bytes::Bytes;
 use codec_model::{Call, Entry};
 use coder_api::CoderBox;
+use run_model::StepResult;
 use script_types::{
     CallerItem, ChunkSource, CodecItem, Kind, OrderItem, Script, ScriptData, Step, Variable,
     VariableKind,
 };
 use std::alloc::Global;
 use std::test::Fail;
-use run_model::StepResult;
 use wc_base::{List, Text, Who};
 use wc_chunk::Chunk;
 use wc_config::{AudioDecoderConfig, Config};

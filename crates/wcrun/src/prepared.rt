@@ -1,6 +1,6 @@
 // A script that can be replayed, and its run.
-use script_types::Script;
 use run_model::Run;
+use script_types::Script;
 use wc_base::List;
 use wc_chunk::Chunk;
 
