@@ -100,6 +100,33 @@ fn push_channel(
         (out.new.items ≡ out.old.items ++ channel_apart channels values.now channel) }
     ensures fit { OnOk result (HaveDepth depth out.new.items) }
 {
+    if channels == 1 {
+        return push_each(channels, depth, values, channel, out);
+    }
+    if channels == 2 {
+        return push_each(channels, depth, values, channel, out);
+    }
+    push_each(channels, depth, values, channel, out)
+}
+
+/// The same in one loop, which the compiler makes anew for each count of channels that it is called with.
+#[inline(always)]
+fn push_each(
+    channels: usize,
+    depth: u32,
+    values: &[i32],
+    channel: usize,
+    out: &mut Vec<i32>,
+) -> Result<(), NoMemory>
+    requires some { 0 < channels }
+    requires few { channels ≤ 8 }
+    requires channel { channel < channels }
+    requires fit { HaveDepth depth values.now }
+    requires so_far { HaveDepth depth out.old.items }
+    ensures value { OnOk result
+        (out.new.items ≡ out.old.items ++ channel_apart channels values.now channel) }
+    ensures fit { OnOk result (HaveDepth depth out.new.items) }
+{
     let _depth = depth;
     for i in 0..values.len() / channels {
         let value = sample_at(channels, values, channel, i);

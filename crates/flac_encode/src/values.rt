@@ -95,6 +95,32 @@ fn push_run(
         ++ map (run_value size depth bytes.now) (range_with_len 0 count)) }
     ensures fit { OnOk result (HaveDepth depth out.new.items) }
 {
+    if size == 2 && depth == 16 {
+        return push_each(size, depth, count, bytes, out);
+    }
+    if size == 4 && depth == 24 {
+        return push_each(size, depth, count, bytes, out);
+    }
+    push_each(size, depth, count, bytes, out)
+}
+
+/// The same in one loop, which the compiler makes anew for each size and depth that it is called with.
+#[inline(always)]
+fn push_each(
+    size: usize,
+    depth: u32,
+    count: usize,
+    bytes: &[u8],
+    out: &mut Vec<i32>,
+) -> Result<(), NoMemory>
+    requires size { is_format_size size ≡ true }
+    requires depth { is_depth depth ≡ true }
+    requires whole { count * size ≡ length bytes.now }
+    requires fit { HaveDepth depth out.old.items }
+    ensures values { OnOk result (out.new.items ≡ out.old.items
+        ++ map (run_value size depth bytes.now) (range_with_len 0 count)) }
+    ensures fit { OnOk result (HaveDepth depth out.new.items) }
+{
     for i in 0..count {
         let value = run_value(size, depth, bytes, i);
         push_value(value, out)?;

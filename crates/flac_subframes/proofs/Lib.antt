@@ -2,4 +2,5 @@ pub mod Earlier
 pub mod Numbers
 pub mod Ranges
 pub mod Residuals
+pub mod Settled
 pub mod Shortest

@@ -32,10 +32,26 @@ pub fn best_choice(
     let most = level.min(6);
     let last = level.min(4);
     let plain = plain_choice(alloc, samples, depth);
+    if is_settled(&plain, samples.len(), depth) {
+        return Ok(plain);
+    }
     if are_within(samples, 1 << 25) {
         with_small_orders(alloc, samples, depth, most, last, plain)
     } else {
         with_orders(alloc, samples, depth, most, last, plain)
+    }
+}
+
+/// Whether a first choice is a constant of so many samples that no candidate of any order is shorter: each has a bit
+/// for each sample, or one sample as it is.
+fn is_settled(first: &Choice, count: usize, depth: u32) -> bool
+    ensures constant { result ≡ true → first.now.candidate ≡ Constant }
+    ensures long { result ≡ true → depth ≤ count }
+{
+    match first.candidate {
+        Candidate::Constant => depth as usize <= count,
+        Candidate::Verbatim => false,
+        Candidate::Fixed { .. } => false,
     }
 }
 

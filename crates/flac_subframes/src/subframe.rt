@@ -1,5 +1,5 @@
 // Subframes, written.
-ghost use Rattle.std.specs.Prelude.{◌≡◌, ◌<◌, ◌≤◌, ◌+◌, ◌-◌, ◌*◌, ◌^◌, ◌++◌, true, length, take, map, OnOk};
+ghost use Rattle.std.specs.Prelude.{◌≡◌, ◌<◌, ◌≤◌, ◌+◌, ◌-◌, ◌*◌, ◌^◌, ◌++◌, true, length, take, map, IfOk, OnOk};
 ghost use Rattle.std.specs.List.{flat_map};
 ghost use Rattle.flac_definitions.specs.Bits.{bits_of};
 ghost use Rattle.flac_definitions.specs.Plans.{plan_parameters, IsPlan, IsUsable};
@@ -115,10 +115,67 @@ fn write_samples(
     ensures { OnOk result
         (w.new ≡ w.old ++ flat_map (sample_bits depth) (take count samples.now)) }
 {
+    let mut held = Held { word: 0, count: 0 };
     for i in 0..count {
-        write_sample(w, samples, depth, i)?;
+        held = with_sample(w, held, samples, depth, i)?;
     }
-    Ok(())
+    w.put(held.count, held.word)
+}
+
+/// Bits that are not written yet, at most a word: a number of so many bits.
+#[derive(Clone, Copy)]
+struct Held {
+    word: u64,
+    count: u32,
+}
+
+/// Holds one more sample, and writes what was held before it where both are more than a word.
+#[inline]
+fn with_sample(
+    w: &mut BitWriter,
+    held: Held,
+    samples: &[i32],
+    depth: u32,
+    i: usize,
+) -> Result<Held, NoMemory>
+    requires within { i < length samples.now }
+    requires depth { 1 ≤ depth }
+    requires most { depth ≤ 33 }
+    requires fit { HaveDepth depth samples.now }
+    requires short { held.count ≤ 64 }
+    requires word { held.word < 2 ^ held.count }
+    ensures bits { IfOk result (λ h. w.new ++ bits_of h.count h.word
+        ≡ (w.old ++ bits_of held.count held.word) ++ sample_bits depth (at samples.now i)) }
+    ensures short { IfOk result (λ h. h.count ≤ 64) }
+    ensures word { IfOk result (λ h. h.word < 2 ^ h.count) }
+{
+    let number = number_at(samples, depth, i);
+    let room = 64 - held.count;
+    if depth <= room {
+        let word = joined(held.word, held.count, depth, number);
+        return Ok(Held {
+            word,
+            count: held.count + depth,
+        });
+    }
+    w.put(held.count, held.word)?;
+    Ok(Held {
+        word: number,
+        count: depth,
+    })
+}
+
+/// A number of so many bits, and `n` bits more.
+#[inline]
+fn joined(word: u64, count: u32, n: u32, value: u64) -> u64
+    requires word { word < 2 ^ count }
+    requires room { count + n ≤ 64 }
+    requires few { n ≤ 33 }
+    requires value { value < 2 ^ n }
+    ensures value { result ≡ word * 2 ^ n + value }
+    ensures bound { result < 2 ^ (count + n) }
+{
+    (word << n) | value
 }
 
 /// One of the samples.

@@ -3,7 +3,7 @@ use Rattle.flac_definitions.specs.FixedPredictors.{at}
 use Rattle.flac_definitions.specs.SubframeWriting.{HasDepth}
 use Rattle.flac_encode.proofs.Counts.{more_units}
 use Rattle.flac_encode.proofs.Filled.{fits_more}
-use Rattle.flac_encode.proofs.block.push_channel.Goals as goal
+use Rattle.flac_encode.proofs.block.push_each.Goals as goal
 
 pub loop-i-preserved : goal.loop-i-preserved
 loop-i-preserved c =

@@ -3,7 +3,7 @@ use Rattle.std.proofs.Math.Nat.{mul-le-mul_left}
 use Rattle.flac_encode.specs.Runs.{run_value}
 use Rattle.flac_encode.proofs.Counts.{more_units}
 use Rattle.flac_encode.proofs.Filled.{fits_more}
-use Rattle.flac_encode.proofs.values.push_run.Goals as goal
+use Rattle.flac_encode.proofs.values.push_each.Goals as goal
 
 pub run_value-value-requires-clause-within : goal.run_value-value-requires-clause-within
 run_value-value-requires-clause-within c =
