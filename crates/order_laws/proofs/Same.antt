@@ -11,6 +11,7 @@ use Rattle.codec_definitions.specs.declared.unit.Unit as media
 use Rattle.codec_model.specs.{declared.entry.Entry.Entry, declared.entry.Opening.Opening, declared.entry.Running.Running, Replay.answer_to}
 use Rattle.codec_model.specs.Shown.{each_shown}
 use Rattle.codec_accounts.specs.{Owed.at, ListLaws.get_kept, ListLaws.get_end}
+use Rattle.codec_accounts.specs.AccountLaws.{history_at}
 use Rattle.codec_accounts.specs.Codec.{Holding, CodecValue, state_of, codec_at, histories, BoxStep, Renew, slots_after, holding_after, next_by, step_by}
 use Rattle.script_types.specs.declared.{script.CodecItem.CodecItem, script.OrderItem.OrderItem, script.ScriptData.ScriptData, steps.Step.Step}
 use Rattle.script_types.specs.declared.steps.MediaStep.{MediaStep}
@@ -22,6 +23,7 @@ use Rattle.run_model.specs.Recorded.{Recorded, take_entry, steps_of}
 use Rattle.run_model.specs.Follow.{Course, record_of, Move, Advance, Ask, Receive, result_of, after_move, with_result, with_entry, with_media, order_items, item_move, next_move, step_move, done_entry, end_of, outcome_for, follow_item, Follows, nothing_yet}
 use Rattle.run_model.specs.Fits.{recorded_of, IsLegalTrace, AreLegalTraces, IsLegalRun, FollowsTheOrder}
 use Rattle.order_laws.specs.Same.{is_want, wants_memory, SameWants, SameBoxes}
+use Rattle.order_laws.specs.Ends.{is_listed, is_listed_end, course_with, AreListed}
 use Rattle.order_laws.proofs.Entries.{longer_history, made_stays, this_history}
 
 -- ---- registries of as many boxes
@@ -127,6 +129,36 @@ module _ (s : ScriptData) (media : List (List Chunk)) (others : List CoderId) wh
   order_same (x ∷ xs) v w z boxes same f g =
       order_same xs (follow_item s media f.0 x v) w z (rw (move_keeps (item_move s media f.0 x v) v 0).0 boxes) same f.1 (subst (λ (u : Course). Follows s media xs u z) (item_alike xs x f.0 g.0 v w z boxes same f.1 g.1) g.1)
 
+  -- ---- ends that are listed
+
+  -- an end that is not idle wants memory where its entry is listed
+  listed_end : (listed : List (ℕ × ℕ)) (xs : List OrderItem) (k moment : ℕ) (a : Bool) (v w : Course) (r : Running) → AreListed listed (histories w.codecs) → (state_of (codec_at k v.codecs)).control.running ≡ Some r
+      → Follows s media xs (follow_item s media a (OrderItem.Done k moment) v) w → a ≡ is_listed_end listed (OrderItem.Done k moment) v
+  listed_end listed xs k moment a v w r are runs f =
+      let d = codec_at k v.codecs in
+      let refusal = d.holding.refusal in
+      let answer = answer_to r.kind (state_of d).running_given in
+      let e : Entry = end_of a moment refusal (state_of d).running_given r in
+      let ends : done_entry a moment d ≡ Some e = ap (option_map (end_of a moment refusal (state_of d).running_given)) runs in
+      let there = stays_there xs v w k e (in_range v.codecs k r runs) (rw ends at f) in
+      let place = length (at k (histories v.codecs)) in
+      sym (wanted_by a refusal answer) ∙ (ap wants_memory (sym there) ∙ (are k place ∙ ap (λ (h : List Entry). is_listed listed k (length h)) (history_at k v.codecs)))
+
+  done_listed : (listed : List (ℕ × ℕ)) (xs : List OrderItem) (k moment : ℕ) (a : Bool) (v w : Course) → AreListed listed (histories w.codecs) → Follows s media xs (follow_item s media a (OrderItem.Done k moment) v) w
+      → (o : Option Running) → (state_of (codec_at k v.codecs)).control.running ≡ o → follow_item s media a (OrderItem.Done k moment) v ≡ follow_item s media (is_listed_end listed (OrderItem.Done k moment) v) (OrderItem.Done k moment) v
+  done_listed listed xs k moment a v w are f None none = rw none refl
+  done_listed listed xs k moment a v w are f (Some r) runs = ap (λ (b : Bool). follow_item s media b (OrderItem.Done k moment) v) (listed_end listed xs k moment a v w r are runs f)
+
+  item_listed : (listed : List (ℕ × ℕ)) (xs : List OrderItem) (x : OrderItem) (a : Bool) (v w : Course) → AreListed listed (histories w.codecs) → Follows s media xs (follow_item s media a x v) w
+      → follow_item s media a x v ≡ follow_item s media (is_listed_end listed x v) x v
+  item_listed listed xs (OrderItem.Done k moment) a v w are f = done_listed listed xs k moment a v w are f (state_of (codec_at k v.codecs)).control.running refl
+  item_listed listed xs x a v w are f = refl
+
+  -- what follows an order is what the order makes with its own ends
+  order_listed : (listed : List (ℕ × ℕ)) (xs : List OrderItem) (v w : Course) → AreListed listed (histories w.codecs) → Follows s media xs v w → w ≡ course_with listed s media xs v
+  order_listed listed [] v w are f = f
+  order_listed listed (x ∷ xs) v w are f = order_listed listed xs (follow_item s media f.0 x v) w are f.1 ∙ ap (course_with listed s media xs) (item_listed listed xs x f.0 v w are f.1)
+
 -- ---- whole runs
 
 callers_same : (ts bs : List CallerTrace) → map (λ (c : CallerTrace). c.results) ts ≡ map (λ (c : CallerTrace). c.results) bs → ts ≡ bs
@@ -149,13 +181,25 @@ traces_same (c ∷ cs) (a ∷ ts) (b ∷ bs) p q h =
     rw (trace_same c a b p.0 q.0 one, traces_same cs ts bs p.1 q.1 rest) refl
 traces_same cs ts bs p q h = absurd search
 
-pub one_run : (s : ScriptData) (media : List (List Chunk)) (made others : List CoderId) (run again : Run) → SameBoxes made others → FollowsTheOrder s media made run → FollowsTheOrder s media others again
-    → IsLegalRun s run → IsLegalRun s again → SameWants (recorded_of run).codecs (recorded_of again).codecs → run ≡ again
-one_run s media made others run again boxes f g p q same =
-    let wants : SameWants (histories f.course.codecs) (histories g.course.codecs) = rw (sym (ap (λ (w : Recorded). w.codecs) f.is_recorded), sym (ap (λ (w : Recorded). w.codecs) g.is_recorded)) same in
-    let is = f.is_recorded ∙ (ap record_of (sym (order_same s media others (order_items s) (nothing_yet s made) f.course g.course boxes wants f.follows g.follows)) ∙ sym g.is_recorded) in
+-- legal runs that recorded the same are one
+recorded_once : (s : ScriptData) (run again : Run) → IsLegalRun s run → IsLegalRun s again → recorded_of run ≡ recorded_of again → run ≡ again
+recorded_once s run again p q is =
     let callers = callers_same run.callers again.callers (ap (λ (r : Recorded). r.callers) is) in
     let codecs = traces_same s.codecs run.codecs again.codecs p.codecs q.codecs (ap (λ (r : Recorded). r.codecs) is) in
     let pool : run.pool ≡ again.pool = ap (λ (r : Recorded). r.pool) is in
     let held : run.held ≡ again.held = p.held ∙ (ap held_in pool ∙ sym q.held) in
     λ i. record { callers = callers i; codecs = codecs i; pool = pool i; slots = (is i).slots; held = held i }
+
+pub one_run : (s : ScriptData) (media : List (List Chunk)) (made others : List CoderId) (run again : Run) → SameBoxes made others → FollowsTheOrder s media made run → FollowsTheOrder s media others again
+    → IsLegalRun s run → IsLegalRun s again → SameWants (recorded_of run).codecs (recorded_of again).codecs → run ≡ again
+one_run s media made others run again boxes f g p q same =
+    let wants : SameWants (histories f.course.codecs) (histories g.course.codecs) = rw (sym (ap (λ (w : Recorded). w.codecs) f.is_recorded), sym (ap (λ (w : Recorded). w.codecs) g.is_recorded)) same in
+    let is = f.is_recorded ∙ (ap record_of (sym (order_same s media others (order_items s) (nothing_yet s made) f.course g.course boxes wants f.follows g.follows)) ∙ sym g.is_recorded) in
+    recorded_once s run again p q is
+
+pub one_run_with : (s : ScriptData) (media : List (List Chunk)) (made : List CoderId) (listed : List (ℕ × ℕ)) (run again : Run) → AreListed listed (recorded_of run).codecs → FollowsTheOrder s media made run
+    → recorded_of again ≡ record_of (course_with listed s media (order_items s) (nothing_yet s made)) → IsLegalRun s run → IsLegalRun s again → run ≡ again
+one_run_with s media made listed run again are f with_ends p q =
+    let wants : AreListed listed (histories f.course.codecs) = rw (sym (ap (λ (w : Recorded). w.codecs) f.is_recorded)) are in
+    let is = f.is_recorded ∙ (ap record_of (order_listed s media made listed (order_items s) (nothing_yet s made) f.course wants f.follows) ∙ sym with_ends) in
+    recorded_once s run again p q is

@@ -2,3 +2,4 @@ pub mod Sound
 pub mod SoundSteps
 pub mod Course
 pub mod Same
+pub mod Ends

@@ -3,13 +3,14 @@ ghost use Rattle.std.specs.Prelude.{ℕ, ◌≡◌, List, true};
 ghost use Rattle.codec_accounts.specs.Owed.{at};
 ghost use Rattle.codec_model.specs.Replay.{IsLegal};
 ghost use Rattle.run_model.specs.Fits.{Fits, FollowsTheOrder, IsLegalRun, recorded_of};
-ghost use Rattle.run_model.specs.Follow.{Course, Follows, nothing_yet};
+ghost use Rattle.run_model.specs.Follow.{Course, Follows, nothing_yet, order_items, record_of};
 ghost use Rattle.run_model.specs.Recorded.{opening_at};
 ghost use Rattle.run_model.specs.declared.run.Run.{Run};
 ghost use Rattle.wc_chunk.specs.declared.chunk.Chunk.{Chunk};
 ghost use Rattle.wc_config.specs.declared.codec.CoderId.{CoderId};
 ghost use Rattle.script_types.specs.Sound.{is_sound};
 ghost use Rattle.order_laws.specs.Course.{IsCourse};
+ghost use Rattle.order_laws.specs.Ends.{AreListed, course_with};
 ghost use Rattle.order_laws.specs.Same.{SameBoxes, SameWants};
 ghost use Rattle.script_types.specs.declared.script.OrderItem.{OrderItem};
 ghost use Rattle.script_types.specs.declared.script.ScriptData.{ScriptData};
@@ -61,4 +62,16 @@ pub fn runs_by_order_are_one()
         → FollowsTheOrder script media others again → IsLegalRun script run
         → IsLegalRun script again
         → SameWants (recorded_of run).codecs (recorded_of again).codecs → run ≡ again }
+{}
+
+/// A law: where a list has just the ends of a run by order that say that memory was wanted, the order makes that run and
+/// no other with these ends: a legal run that recorded what it makes with them is the same run.
+pub fn listed_ends_make_one_run()
+    ensures { (script : ScriptData) (media : List (List Chunk)) (made : List CoderId)
+        (listed : List (ℕ × ℕ)) (run again : Run)
+        → AreListed listed (recorded_of run).codecs → FollowsTheOrder script media made run
+        → recorded_of again
+        ≡ record_of (course_with listed script media (order_items script)
+        (nothing_yet script made))
+        → IsLegalRun script run → IsLegalRun script again → run ≡ again }
 {}

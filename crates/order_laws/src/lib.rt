@@ -3,4 +3,4 @@
 
 mod laws;
 
-pub use laws::{following_fits, following_stands, runs_by_order_are_one};
+pub use laws::{following_fits, following_stands, listed_ends_make_one_run, runs_by_order_are_one};
