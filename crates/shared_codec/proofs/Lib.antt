@@ -5,7 +5,6 @@ pub mod Gave
 pub mod Jobs
 pub mod Owing
 pub mod Stands
-pub mod Sums
 pub mod Taken
 pub mod Worked
 pub mod Working

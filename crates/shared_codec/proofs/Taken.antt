@@ -62,11 +62,15 @@ stands_take k o calls pool slots n who number (Ok (Some place)) old new log p ac
 stands_take k o calls pool slots n who number (Ok None) old new log p acq none gives is st = stands_same k o calls pool slots n old new log p gives.1 is st
 stands_take k o calls pool slots n who number (Err e) old new log p acq none gives is st = stands_same k o calls pool slots n old new log p gives.0 is st
 
--- the next output, by the log
-pub next_at : (s : Shared) (h : Holding) (c : Codec) (log : Log Event) (next : Result (Option NextOutput) NoMemory) → StandsAt s h log → c ≡ h.codec → IfOk next (NextIs c.opening c.history (state_at c).control) → IfOk next (NextIs s.opening (history_of log) (state_in s log).control)
-next_at s h c log next st same is =
-    let here : IfOk next (NextIs h.codec.opening h.codec.history (state_at h.codec).control) = subst (λ (d : Codec). IfOk next (NextIs d.opening d.history (state_at d).control)) same is in
-    subst (λ (z : Opening × (List Entry × State)). IfOk next (NextIs z.0 z.1.0 z.1.1.control)) (λ i. (st.opening i, (st.history i, st.state i))) here
+-- how many entries were made and the next output, by the log
+pub output_at : (s : Shared) (h : Holding) (c : Codec) (log : Log Event) (seen : Result (ℕ × Option NextOutput) NoMemory) → StandsAt s h log → c ≡ h.codec → IfOk seen (λ x. x.0 ≡ length c.history) → IfOk seen (λ x. NextIs c.opening c.history (state_at c).control x.1)
+    → IfOk seen (λ x. (x.0 ≡ length (history_of log)) × NextIs s.opening (history_of log) (state_in s log).control x.1)
+output_at s h c log (Ok x) st same count next =
+    let here : NextIs h.codec.opening h.codec.history (state_at h.codec).control x.1 = subst (λ (d : Codec). NextIs d.opening d.history (state_at d).control x.1) same next in (
+      count ∙ (ap (λ (d : Codec). length d.history) same ∙ ap length st.history),
+      subst (λ (z : Opening × (List Entry × State)). NextIs z.0 z.1.0 z.1.1.control x.1) (λ i. (st.opening i, (st.history i, st.state i))) here,
+    )
+output_at s h c log (Err e) st same count next = tt
 
 module _ {S : Type 0} (s : Shared) where
   pub tells_take : (who : Who) (number : ℕ) (result : Result (Option ℕ) NoMemory) (old new : Holding) (p : Passage Event) (acq : Acquires) (a c : Seat (Option S) (View Event)) (passes : Passes no_mint no_spend p a c) → acquires_of acq ≡ [] → TakeGives old new who number result → PassageIs (took result) new.codec.history acq p

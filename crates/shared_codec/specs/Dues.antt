@@ -1,6 +1,7 @@
--- What the entries of a codec call for in its registry and in its pool.
+-- What the entries of a codec call for in its registry and in its pool, and which calls of callers they are.
 use Rattle.std.specs.Prelude.{ℕ, ◌≡◌, Bool, true, false, cond, List, [], ◌∷◌, ◌++◌, map, Option, Some, None}
 use Rattle.wc_base.specs.declared.who.By.TheVariants as by
+use Rattle.wc_base.specs.declared.who.Who.{Who}
 use Rattle.wc_base.specs.Views.{Log}
 use Rattle.wc_base.specs.declared.seat.Passage.{Passage}
 use Rattle.wc_base.specs.declared.seat.Passage.TheVariants.{Made, Look}
@@ -14,7 +15,8 @@ use Rattle.codec_model.specs.declared.entry.Opening.{Opening}
 use Rattle.wc_pool.specs.declared.entry.PoolEntry.{PoolEntry}
 use Rattle.wc_pool.specs.declared.entry.PoolOp.{PoolOp}
 use Rattle.wc_pool.specs.declared.entry.PoolOp.TheVariants as pool
-use Rattle.codec_model.specs.declared.entry.Pair.{Pair}
+use Rattle.codec_model.specs.declared.entry.{Call.Call, Entry.Entry, Pair.Pair}
+use Rattle.codec_model.specs.declared.entry.Entry.TheVariants as entry
 use Rattle.codec_model.specs.Held.{adds_held, lets_go}
 use Rattle.codec_accounts.specs.Boxes.{lets_go_by}
 use Rattle.codec_accounts.specs.Registry.{Box}
@@ -42,6 +44,25 @@ ends_at place pairs = map (λ p. (place, pool.End p.resource p.reference false))
 -- What an event of a codec calls for in its pool: the clone that its entry brings, and an end of each reference that it lets go.
 abbrev pub media_dues : ℕ → Event → Track → List (ℕ × PoolOp)
 media_dues k e x = clones_at x.holds.place (adds_held (entry_of e)) ++ ends_at x.holds.place (lets_go (entry_of e) x.state)
+
+-- a call of a caller, in the history of a codec
+pub record Called : Type 0 where
+  pub codec : ℕ
+  pub place : ℕ
+  pub who : Who
+  pub call : Call
+
+-- the call of a caller that an entry of the codec k at this place is, if it is one
+abbrev pub call_in : ℕ → ℕ → Entry → List Called
+call_in k place (entry.Call who x) = record { codec = k; place = place; who = who; call = x } ∷ []
+call_in k place (entry.Start epoch item) = []
+call_in k place (entry.Done epoch item moment outcome) = []
+call_in k place entry.Turn = []
+call_in k place (entry.Reclaim moment) = []
+
+-- The call that an event is: what its entry names of callers.
+abbrev pub call_dues : ℕ → Event → Track → List Called
+call_dues k e x = call_in k x.holds.place (entry_of e)
 
 -- the entry of the pool does this by the entry of the codec k at this place
 abbrev pub DoesFor : ℕ → ℕ → PoolOp → PoolEntry → Type 0

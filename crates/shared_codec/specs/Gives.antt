@@ -6,8 +6,7 @@ use Rattle.wc_base.specs.declared.who.Who.{Who}
 use Rattle.wc_base.specs.declared.seat.View.{View}
 use Rattle.wc_pool.specs.declared.entry.PoolEntry.{PoolEntry}
 use Rattle.wc_pool.specs.declared.reference.MediaRef.{MediaRef}
-use Rattle.codec_model.specs.declared.entry.Content.{Content}
-use Rattle.codec_model.specs.declared.entry.{Call.Call, Handed.Handed}
+use Rattle.codec_model.specs.declared.entry.{Call.Call, Handed.Handed, HeldMedium.HeldMedium}
 use Rattle.codec_model.specs.declared.entry.Entry.TheVariants as entry
 use Rattle.codec_model.specs.declared.entry.Call.TheVariants as call
 use Rattle.codec_model.specs.Control.{may_take}
@@ -43,14 +42,14 @@ TakeGives old new who number (Ok (Some place)) = Calls old new who (call.Take nu
 TakeGives old new who number (Ok None) = (may_take number (state_at old.codec).control ≡ false) × (new ≡ old)
 TakeGives old new who number (Err e) = (new ≡ old) × (old.codec.spare ≡ 0)
 
--- an encode of open data, by the codec with this number, with what the pool's seat made for it
-pub record Encodes (k : ℕ) (pool : TableId) (old new : Holding) (who : Who) (content : Content) (medium : MediaRef) (r : ReplyValue) (v w : View PoolEntry) : Type 0 where
+-- an encode of an open medium that is lent, by the codec with this number, with what the pool's seat made for it
+pub record Encodes (k : ℕ) (pool : TableId) (old new : Holding) (who : Who) (lends : HeldMedium → MediaRef → Type 0) (r : ReplyValue) (v w : View PoolEntry) : Type 0 where
   pub given : Handed
   pub brought : List MediaRef
   pub calls : Calls old new who (call.Encode given) r brought
   pub of : AreOf pool brought
-  pub hands : Hands k r.place content medium given v w
+  pub hands : Hands k r.place lends given v w
 
-abbrev pub EncodeGives : ℕ → TableId → Holding → Holding → Who → Content → MediaRef → Result ReplyValue NoMemory → View PoolEntry → View PoolEntry → Type 0
-EncodeGives k pool old new who content medium (Ok r) v w = Encodes k pool old new who content medium r v w
-EncodeGives k pool old new who content medium (Err e) v w = (new ≡ old) × NoneKept k (length old.codec.history) v w × (is_configured (state_at old.codec).control ≡ false → old.codec.spare ≡ 0)
+abbrev pub EncodeGives : ℕ → TableId → Holding → Holding → Who → (HeldMedium → MediaRef → Type 0) → Result ReplyValue NoMemory → View PoolEntry → View PoolEntry → Type 0
+EncodeGives k pool old new who lends (Ok r) v w = Encodes k pool old new who lends r v w
+EncodeGives k pool old new who lends (Err e) v w = (new ≡ old) × NoneKept k (length old.codec.history) v w × (is_configured (state_at old.codec).control ≡ false → old.codec.spare ≡ 0)

@@ -6,10 +6,14 @@ pub mod Shared
 pub mod Settles
 pub mod Settled
 pub mod Sums
+pub mod SumLaws
+pub mod Names
+pub mod NameLaws
 pub mod Jobs
 pub mod Calls
 pub mod Encodes
 pub mod Gives
+pub mod Lends
 pub mod Looks
 pub mod Takes
 pub mod Workers

@@ -1,5 +1,5 @@
 -- What takes of a shared codec's outputs tell.
-use Rattle.std.specs.Prelude.{ℕ, ◌≡◌, Bool, true, false, List, Option, Some, None, is_some, IfOk, Result, Ok, Err, slice_get}
+use Rattle.std.specs.Prelude.{ℕ, ◌≡◌, Bool, true, false, List, length, Option, Some, None, is_some, IfOk, Result, Ok, Err, slice_get}
 use Rattle.atomic_table.specs.declared.shared.Seat.{Seat}
 use Rattle.wc_base.specs.declared.error.NoMemory.{NoMemory}
 use Rattle.wc_base.specs.declared.who.Who.{Who}
@@ -27,6 +27,10 @@ NextIs o history c None = may_take c.taken c ≡ false
 NextIs o history c (Some x) = (x.number ≡ c.taken) × (may_take x.number c ≡ true) × (slice_get (outputs_of (shown o history)) x.number ≡ Some x.unit)
 
 module _ {S : Type 0} where
+  -- how many entries were made, and the next output
+  abbrev pub OutputTells : Shared → Result (ℕ × Option NextOutput) NoMemory → Seat (Option S) (View Event) → Seat (Option S) (View Event) → Type 0
+  OutputTells s seen a b = Saw s (λ log. IfOk seen (λ x. (x.0 ≡ length (history_of log)) × NextIs s.opening (history_of log) (state_in s log).control x.1)) a b
+
   abbrev pub NextTells : Shared → Result (Option NextOutput) NoMemory → Seat (Option S) (View Event) → Seat (Option S) (View Event) → Type 0
   NextTells s next a b = Saw s (λ log. IfOk next (NextIs s.opening (history_of log) (state_in s log).control)) a b
 

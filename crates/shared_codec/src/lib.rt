@@ -6,6 +6,7 @@ mod calls;
 mod codec;
 mod encodes;
 mod laws;
+mod lender;
 mod looks;
 mod passage;
 mod settling;
@@ -14,5 +15,6 @@ mod workers;
 
 pub use codec::{About, CodecSeat, Locked, SharedCodec};
 pub use laws::dues_add_up;
+pub use lender::{Lender, OpenMedium};
 pub use settling::Answer;
 pub use takes::NextOutput;

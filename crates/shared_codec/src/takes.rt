@@ -1,12 +1,12 @@
 // Takes of a shared codec's outputs.
-ghost use Rattle.std.specs.Prelude.{◌≡◌, [], IfOk};
+ghost use Rattle.std.specs.Prelude.{◌≡◌, [], length, IfOk};
 ghost use Rattle.codec_model.specs.Control.{may_take};
 ghost use Rattle.codec_core.specs.Codec.{state_at};
 ghost use Rattle.seat_lock.specs.Seats.{IsIdleAt};
 ghost use Rattle.shared_codec.specs.Gives.{TakeGives};
 ghost use Rattle.shared_codec.specs.Keeps.{Keeps};
 ghost use Rattle.shared_codec.specs.Owes.{Owes};
-ghost use Rattle.shared_codec.specs.Takes.{NextIs, TakeTells, NextTells, took};
+ghost use Rattle.shared_codec.specs.Takes.{NextIs, OutputTells, TakeTells, NextTells, took};
 
 use crate::calls::call_placed;
 use crate::codec::{CodecSeat, SharedCodec};
@@ -38,6 +38,17 @@ fn next_in<C: Coder>(core: &Core<C>) -> Result<Option<NextOutput>, NoMemory>
         })),
         None => Ok(None),
     }
+}
+
+// The number of entries, and the next output, again.
+fn output_in<C: Coder>(core: &Core<C>) -> Result<(u64, Option<NextOutput>), NoMemory>
+    ensures length { IfOk result (λ x. x.0 ≡ length core.now.history) }
+    ensures next { IfOk result
+        (λ x. NextIs core.now.opening core.now.history (state_at core.now).control x.1) }
+{
+    let (length, _, _) = core.look();
+    let next = next_in(core)?;
+    Ok((length, next))
 }
 
 // Whether this is the number of the next output.
@@ -74,6 +85,24 @@ fn has_taken(place: &Result<Option<u64>, NoMemory>) -> bool
 }
 
 impl<C: Coder> SharedCodec<C> {
+    /// The number of entries, and the first output that was shown and not taken yet, again, over the same shared bytes; none
+    /// exactly where there is none. It is one look. Memory is wanted for the copy alone.
+    pub fn look_for_output<R: Wait>(
+        &self,
+        rt: &R,
+        seat: &mut CodecSeat<C>,
+    ) -> Result<(u64, Option<NextOutput>), NoMemory>
+        requires { IsIdleAt self.now.id seat.old }
+        ensures kept { Keeps self.now.id seat.old seat.new }
+        ensures tells { OutputTells self.now result seat.old seat.new }
+        ensures owes { Owes self.now [] [] seat.old.me.0 seat.new.me.0 }
+    {
+        let mut held = self.lock.enter(rt, seat);
+        let seen = output_in(held.state().core.core());
+        self.lock.leave(seat, held, Passage::Look);
+        seen
+    }
+
     /// The first output that was shown and not taken yet, again, over the same shared bytes; none exactly where there is
     /// none. It is a look. Memory is wanted for the copy alone.
     pub fn next_output<R: Wait>(
@@ -86,10 +115,10 @@ impl<C: Coder> SharedCodec<C> {
         ensures next { NextTells self.now result seat.old seat.new }
         ensures owes { Owes self.now [] [] seat.old.me.0 seat.new.me.0 }
     {
-        let mut held = self.lock.enter(rt, seat);
-        let next = next_in(held.state().core.core());
-        self.lock.leave(seat, held, Passage::Look);
-        next
+        match self.look_for_output(rt, seat) {
+            Ok((_, next)) => Ok(next),
+            Err(NoMemory) => Err(NoMemory),
+        }
     }
 
     /// A caller takes the output of this number, which a look gave. It answers the place of the take's entry; none exactly

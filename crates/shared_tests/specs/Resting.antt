@@ -45,7 +45,7 @@ pub record AreLive (f g : Shared) (r : Registry) (p : TableId) (s : Seats) : Typ
 pub record IsReady (f g : Shared) (r : Registry) (p : TableId) (x : Part) : Type 0 where
   pub desk : IsDesk f g r p
   pub live : AreLive f g r p x.seats
-  pub medium_is : IsPoolRef p x.medium
+  pub medium_is : IsPoolRef p x.medium.reference
 
 -- the seats are as before, but for what was made with them
 pub record AreKept (f g : Shared) (r : Registry) (p : TableId) (s t : Seats) : Type 0 where

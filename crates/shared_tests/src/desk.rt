@@ -6,16 +6,15 @@ ghost use Rattle.shared_pool.specs.Steps as pools;
 ghost use Rattle.shared_slots.specs.Steps.{IsFree};
 ghost use Rattle.shared_codec.specs.Keeps.{Keeps};
 
-use codec_model::{Call, Content, MediaShape};
+use codec_model::Call;
 use sample_coder::SampleCoder;
-use shared_codec::{CodecSeat, SharedCodec};
+use shared_codec::{CodecSeat, OpenMedium, SharedCodec};
 use shared_pool::{PoolSeat, SharedPool};
 use shared_slots::{SlotRegistry, SlotSeat};
 use std::alloc::Global;
 use std::sync::Wait;
 use wc_base::{NoMemory, SampleFormat, SoundShape, Text, Who};
 use wc_config::{AudioEncoderConfig, Config};
-use wc_pool::MediaRef;
 
 /// One frame of 16 bits.
 pub const MONO: SoundShape = SoundShape {
@@ -35,34 +34,6 @@ fn pcm(alloc: Global) -> Result<Config, NoMemory> {
         level: 5,
         depth: 16,
     }))
-}
-
-// An encode of one frame; none where its bytes are wanting.
-fn encode_one<R: Wait>(
-    rt: &R,
-    codec: &SharedCodec<SampleCoder>,
-    seat: &mut CodecSeat<SampleCoder>,
-    pool: &SharedPool,
-    pool_seat: &mut PoolSeat,
-    medium: &mut MediaRef,
-    who: Who,
-)
-    requires seat { IsIdleAt codec.now.id seat.old }
-    requires pool { pool.now ≡ codec.now.pool }
-    requires pool_seat { pools.IsFree pool.now pool_seat.old }
-    requires medium { IsPoolRef pool.now medium.old }
-    ensures kept { Keeps codec.now.id seat.old seat.new }
-    ensures kept_pool { Keeps pool.now pool_seat.old pool_seat.new }
-    ensures free_pool { pools.IsFree pool.now pool_seat.new }
-    ensures still { IsPoolRef pool.now medium.new }
-{
-    if let Ok(bytes) = medium.bytes().clone() {
-        let content = Content {
-            shape: MediaShape::Sound(MONO),
-            bytes,
-        };
-        let _ = codec.encode(rt, seat, who, content, medium, pool, pool_seat);
-    }
 }
 
 /// A configure.
@@ -152,7 +123,7 @@ pub fn act<R: Wait>(
     slot_seat: &mut SlotSeat<SampleCoder>,
     pool: &SharedPool,
     pool_seat: &mut PoolSeat,
-    medium: &mut MediaRef,
+    medium: &mut OpenMedium,
     who: Who,
 )
     requires seat { IsIdleAt codec.now.id seat.old }
@@ -160,16 +131,18 @@ pub fn act<R: Wait>(
     requires pool { pool.now ≡ codec.now.pool }
     requires slot_seat { IsFree slots.now.id slot_seat.old }
     requires pool_seat { pools.IsFree pool.now pool_seat.old }
-    requires medium { IsPoolRef pool.now medium.old }
+    requires medium { IsPoolRef pool.now medium.old.reference }
     ensures kept { Keeps codec.now.id seat.old seat.new }
     ensures kept_slots { Keeps slots.now.id slot_seat.old slot_seat.new }
     ensures free_slots { IsFree slots.now.id slot_seat.new }
     ensures kept_pool { Keeps pool.now pool_seat.old pool_seat.new }
     ensures free_pool { pools.IsFree pool.now pool_seat.new }
-    ensures still { IsPoolRef pool.now medium.new }
+    ensures still { IsPoolRef pool.now medium.new.reference }
 {
     match who.step % 8 {
-        0 | 1 | 2 | 3 => encode_one(rt, codec, seat, pool, pool_seat, medium, who),
+        0 | 1 | 2 | 3 => {
+            let _ = codec.encode(rt, seat, who, medium, pool, pool_seat);
+        }
         7 => {
             reset(rt, codec, seat, slots, slot_seat, pool, pool_seat, who);
             configure(rt, alloc, codec, seat, who);

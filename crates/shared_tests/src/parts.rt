@@ -4,7 +4,7 @@ ghost use Rattle.shared_tests.specs.Resting.{IsReady, AreKept};
 
 use crate::desk::act;
 use sample_coder::SampleCoder;
-use shared_codec::{CodecSeat, SharedCodec};
+use shared_codec::{CodecSeat, OpenMedium, SharedCodec};
 use shared_pool::{PoolSeat, SharedPool};
 use shared_slots::{SlotRegistry, SlotSeat};
 use std::alloc::Global;
@@ -12,7 +12,6 @@ use std::sync::{Barrier, Wait};
 use std::thread;
 use std::thread::Threads;
 use wc_base::{By, Who};
-use wc_pool::MediaRef;
 
 /// A thread's seats at two codecs, at their registry and at their pool.
 #[derive(Drop)]
@@ -23,12 +22,12 @@ pub struct Seats {
     pub pool: PoolSeat,
 }
 
-/// A caller, with its seats and the reference that it encodes.
+/// A caller, with its seats and the medium that it encodes.
 #[derive(Drop)]
 pub struct Part {
     pub caller: u32,
     pub seats: Seats,
-    pub medium: MediaRef,
+    pub medium: OpenMedium,
 }
 
 /// So many steps of a caller on each of the two codecs, and the end of its reference.
@@ -82,7 +81,7 @@ pub fn play<R: Wait>(
         caller,
         step: steps,
     });
-    let _ = pool.end(rt, &mut seats.pool, by, medium);
+    let _ = pool.end(rt, &mut seats.pool, by, medium.reference);
     seats
 }
 

@@ -7,14 +7,14 @@ ghost use Rattle.shared_slots.specs.Steps.{IsFree};
 ghost use Rattle.shared_tests.specs.Resting.{IsDesk, IsReady, AreLive, AreKept};
 ghost use Rattle.std.specs.Prelude.{◌≡◌, ◌≤◌, ◌+◌, ◌^◌, IfOk};
 
-use crate::desk::{configure, reset, work};
+use crate::desk::{MONO, configure, reset, work};
 use crate::parts::{Part, Seats, play_two};
 use bytes::Bytes;
 use codec_media::HoldingCore;
-use codec_model::Kind;
+use codec_model::{Kind, MediaShape};
 use sample_coder::{Coding, SampleCoder};
 use sample_conversion::SampleSize;
-use shared_codec::{CodecSeat, SharedCodec};
+use shared_codec::{CodecSeat, OpenMedium, SharedCodec};
 use shared_pool::{PoolSeat, SharedPool};
 use shared_slots::{SlotRegistry, SlotSeat};
 use slot_registry::Slots;
@@ -164,12 +164,12 @@ fn part_of(
     pool: &SharedPool,
     all: &mut Seats,
     caller: u32,
-    medium: MediaRef,
+    reference: MediaRef,
 ) -> Part
     requires desk { IsDesk first.now second.now slots.now pool.now }
     requires live { AreLive first.now second.now slots.now pool.now all.old }
     requires parts { 2 ≤ all.old.pool.me.0.parts }
-    requires medium { IsPoolRef pool.now medium }
+    requires reference { IsPoolRef pool.now reference }
     ensures live { AreLive first.now second.now slots.now pool.now all.new }
     ensures left { all.new.pool.me.0.parts + 1 ≡ all.old.pool.me.0.parts }
     ensures ready { IsReady first.now second.now slots.now pool.now result }
@@ -179,7 +179,10 @@ fn part_of(
     Part {
         caller,
         seats,
-        medium,
+        medium: OpenMedium {
+            shape: MediaShape::Sound(MONO),
+            reference,
+        },
     }
 }
 

@@ -14,7 +14,7 @@ use Rattle.shared_codec.proofs.codec.SharedCodec.encode.Goals as goal
 pub passage_if-passage-requires-after_bounds : goal.passage_if-passage-requires-after_bounds
 passage_if-passage-requires-after_bounds g c κs within = λ made.
     rw (c.core.ensures, c.deref.ensures, c.state-2.ensures.value)
-    (encode_some c.self.inside.codec c.args.pool.now c.deref_mut.result.now c.encode_in-reply.new.core c.args.who c.args.content c.args.medium.now c.encode_in-reply.result c.args.pool_seat.now.me.0 c.encode_in-reply.new.seat.me.0 c.encode_in-reply.ensures.encoded (sym c.has_replied-made.ensures ∙ made))
+    (encode_some c.self.inside.codec c.args.pool.now c.deref_mut.result.now c.encode_in-reply.new.core c.args.who (g.L.Lender.lends c.args.lender.now) c.encode_in-reply.result c.args.pool_seat.now.me.0 c.encode_in-reply.new.seat.me.0 c.encode_in-reply.ensures.encoded (sym c.has_replied-made.ensures ∙ made))
 
 pub leave-requires-clause-log : goal.leave-requires-clause-log
 leave-requires-clause-log g c =
@@ -23,14 +23,14 @@ leave-requires-clause-log g c =
     let st : StandsAt s c.deref_mut.result.now e.log = subst (λ (x : Holding). StandsAt s x e.log) (sym c.deref_mut.ensures.value) (subst (λ (x : Locked _). StandsAt s x.core.value e.log) (sym c.state.ensures.value) e.stands) in
     let same : c.self.inside.codec ≡ s.codec = c.self.invariant in
     let pool : c.args.pool.now ≡ s.pool = c.requires.pool ∙ ap (λ (x : Shared). x.pool) (sym c.self.view_is) in
-    let gives : EncodeGives s.codec s.pool c.deref_mut.result.now c.encode_in-reply.new.core c.args.who c.args.content c.args.medium.now c.encode_in-reply.result c.args.pool_seat.now.me.0 c.encode_in-reply.new.seat.me.0 =
-    subst (λ (z : ℕ × TableId). EncodeGives z.0 z.1 c.deref_mut.result.now c.encode_in-reply.new.core c.args.who c.args.content c.args.medium.now c.encode_in-reply.result c.args.pool_seat.now.me.0 c.encode_in-reply.new.seat.me.0) (λ i. (same i, pool i)) c.encode_in-reply.ensures.encoded in
+    let gives : EncodeGives s.codec s.pool c.deref_mut.result.now c.encode_in-reply.new.core c.args.who (g.L.Lender.lends c.args.lender.now) c.encode_in-reply.result c.args.pool_seat.now.me.0 c.encode_in-reply.new.seat.me.0 =
+    subst (λ (z : ℕ × TableId). EncodeGives z.0 z.1 c.deref_mut.result.now c.encode_in-reply.new.core c.args.who (g.L.Lender.lends c.args.lender.now) c.encode_in-reply.result c.args.pool_seat.now.me.0 c.encode_in-reply.new.seat.me.0) (λ i. (same i, pool i)) c.encode_in-reply.ensures.encoded in
     let is = rw (c.has_replied-made.ensures, c.core.ensures, c.deref.ensures, c.state-2.ensures.value) at c.passage_if-passage.ensures in
     let n = c.enter-held.new.seat.me.0.number in
     record {
       log = e.log;
       inside = inside_of e.log _ _ e.goes_in;
-      stands = rw c.state-2.ensures.value (stands_encode s.codec s.opening s.calls s.pool s.slots n c.args.who c.args.content c.args.medium.now c.encode_in-reply.result c.deref_mut.result.now c.encode_in-reply.new.core c.args.pool_seat.now.me.0 c.encode_in-reply.new.seat.me.0 e.log _ c.no_acquires.result (ap acquires_of c.no_acquires.ensures) gives is st);
+      stands = rw c.state-2.ensures.value (stands_encode s.codec s.opening s.calls s.pool s.slots n c.args.who (g.L.Lender.lends c.args.lender.now) c.encode_in-reply.result c.deref_mut.result.now c.encode_in-reply.new.core c.args.pool_seat.now.me.0 c.encode_in-reply.new.seat.me.0 e.log _ c.no_acquires.result (ap acquires_of c.no_acquires.ensures) gives is st);
       has_claim = nothing_spent e.log _ _;
     }
 
@@ -41,13 +41,13 @@ returns-clause-reply g c =
     let st : StandsAt s c.deref_mut.result.now e.log = subst (λ (x : Holding). StandsAt s x e.log) (sym c.deref_mut.ensures.value) (subst (λ (x : Locked _). StandsAt s x.core.value e.log) (sym c.state.ensures.value) e.stands) in
     let same : c.self.inside.codec ≡ s.codec = c.self.invariant in
     let pool : c.args.pool.now ≡ s.pool = c.requires.pool ∙ ap (λ (x : Shared). x.pool) (sym c.self.view_is) in
-    let gives : EncodeGives s.codec s.pool c.deref_mut.result.now c.encode_in-reply.new.core c.args.who c.args.content c.args.medium.now c.encode_in-reply.result c.args.pool_seat.now.me.0 c.encode_in-reply.new.seat.me.0 =
-    subst (λ (z : ℕ × TableId). EncodeGives z.0 z.1 c.deref_mut.result.now c.encode_in-reply.new.core c.args.who c.args.content c.args.medium.now c.encode_in-reply.result c.args.pool_seat.now.me.0 c.encode_in-reply.new.seat.me.0) (λ i. (same i, pool i)) c.encode_in-reply.ensures.encoded in
+    let gives : EncodeGives s.codec s.pool c.deref_mut.result.now c.encode_in-reply.new.core c.args.who (g.L.Lender.lends c.args.lender.now) c.encode_in-reply.result c.args.pool_seat.now.me.0 c.encode_in-reply.new.seat.me.0 =
+    subst (λ (z : ℕ × TableId). EncodeGives z.0 z.1 c.deref_mut.result.now c.encode_in-reply.new.core c.args.who (g.L.Lender.lends c.args.lender.now) c.encode_in-reply.result c.args.pool_seat.now.me.0 c.encode_in-reply.new.seat.me.0) (λ i. (same i, pool i)) c.encode_in-reply.ensures.encoded in
     let is = rw (c.has_replied-made.ensures, c.core.ensures, c.deref.ensures, c.state-2.ensures.value) at c.passage_if-passage.ensures in
     let n = c.args.seat.now.me.0.number in
     let passes = passes_in _ _ (passage_of c.passage_if-passage.result) c.args.seat.now c.enter-held.new.seat c.leave.new.seat e c.leave.ensures.log in
-    let next = stands_encode s.codec s.opening s.calls s.pool s.slots n c.args.who c.args.content c.args.medium.now c.encode_in-reply.result c.deref_mut.result.now c.encode_in-reply.new.core c.args.pool_seat.now.me.0 c.encode_in-reply.new.seat.me.0 e.log _ c.no_acquires.result (ap acquires_of c.no_acquires.ensures) gives is st in
-    rw (← c.self.view_is) (tells_encode s c.args.who c.args.content c.args.medium.now c.encode_in-reply.result c.deref_mut.result.now c.encode_in-reply.new.core c.args.pool_seat.now.me.0 c.encode_in-reply.new.seat.me.0 _ c.no_acquires.result c.args.seat.now c.leave.new.seat passes (ap acquires_of c.no_acquires.ensures) gives is st next)
+    let next = stands_encode s.codec s.opening s.calls s.pool s.slots n c.args.who (g.L.Lender.lends c.args.lender.now) c.encode_in-reply.result c.deref_mut.result.now c.encode_in-reply.new.core c.args.pool_seat.now.me.0 c.encode_in-reply.new.seat.me.0 e.log _ c.no_acquires.result (ap acquires_of c.no_acquires.ensures) gives is st in
+    rw (← c.self.view_is) (tells_encode s c.args.who (g.L.Lender.lends c.args.lender.now) c.encode_in-reply.result c.deref_mut.result.now c.encode_in-reply.new.core c.args.pool_seat.now.me.0 c.encode_in-reply.new.seat.me.0 _ c.no_acquires.result c.args.seat.now c.leave.new.seat passes (ap acquires_of c.no_acquires.ensures) gives is st next)
 
 pub returns-clause-kept : goal.returns-clause-kept
 returns-clause-kept g c =
@@ -57,8 +57,8 @@ returns-clause-kept g c =
 
 pub returns-clause-settles : goal.returns-clause-settles
 returns-clause-settles g c =
-    encode_settles c.args.self.now c.args.who c.args.content c.args.medium.now c.encode_in-reply.result c.args.seat.now c.leave.new.seat c.args.pool_seat.now.me.0 c.encode_in-reply.new.seat.me.0 (returns-clause-reply g c)
+    encode_settles c.args.self.now c.args.who (g.L.Lender.lends c.args.lender.now) c.encode_in-reply.result c.args.seat.now c.leave.new.seat c.args.pool_seat.now.me.0 c.encode_in-reply.new.seat.me.0 (returns-clause-reply g c)
 
 pub returns-clause-err : goal.returns-clause-err
 returns-clause-err g c =
-    wanted_owes c.args.self.now c.args.who c.args.content c.args.medium.now c.encode_in-reply.result c.args.seat.now c.leave.new.seat c.args.pool_seat.now.me.0 c.encode_in-reply.new.seat.me.0 (returns-clause-reply g c)
+    wanted_owes c.args.self.now c.args.who (g.L.Lender.lends c.args.lender.now) c.encode_in-reply.result c.args.seat.now c.leave.new.seat c.args.pool_seat.now.me.0 c.encode_in-reply.new.seat.me.0 (returns-clause-reply g c)
