@@ -1,5 +1,5 @@
 -- Lists of which each element has a partner at its place in another list: the seats of a thread, each at a codec.
-use Rattle.std.proofs.Common.{ℕ, zero, suc, ◌≡◌, List, [], ◌∷◌, ◌++◌, Some, set}
+use Rattle.std.proofs.Common.{ℕ, zero, suc, ◌≡◌, ◌⊎◌, List, [], ◌∷◌, ◌++◌, Some, set}
 use Rattle.std.specs.Prelude.{slice_get}
 
 module _ {X A : Type 0} where
@@ -21,6 +21,13 @@ module _ {X A : Type 0} where
   First R S zero (x ∷ xs) (u ∷ us) (v ∷ vs) = S x u v × First R S zero xs us vs
   First R S (suc n) (x ∷ xs) (u ∷ us) (v ∷ vs) = R x u v × First R S n xs us vs
   First R S n _ _ _ = ⊥
+
+  -- This is so of one partner at least, of its element before, and of its element now.
+  abbrev pub AtSome : (X → A → A → Type 0) → List X → List A → List A → Type 0
+  AtSome R [] us vs = ⊥
+  AtSome R (x ∷ xs) [] vs = ⊥
+  AtSome R (x ∷ xs) (u ∷ us) [] = ⊥
+  AtSome R (x ∷ xs) (u ∷ us) (v ∷ vs) = R x u v ⊎ AtSome R xs us vs
 
   -- Of the elements only the one at this place has changed, and this is so of it.
   pub record OneAt (place : ℕ) (P : X → A → A → Type 0) (xs : List X) (us vs : List A) : Type 0 where

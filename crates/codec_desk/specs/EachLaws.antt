@@ -1,10 +1,10 @@
 -- Laws of lists whose elements have partners.
-use Rattle.std.proofs.Common.{ℕ, zero, suc, ◌≡◌, ◌+◌, ◌≤◌, List, [], ◌∷◌, ◌++◌, Some, length, refl, ap, sym, subst, arith, set}
+use Rattle.std.proofs.Common.{ℕ, zero, suc, ◌≡◌, ◌+◌, ◌≤◌, inl, inr, List, [], ◌∷◌, ◌++◌, Some, length, refl, ap, sym, subst, arith, set}
 use Rattle.std.specs.Prelude.{slice_get}
 use Rattle.std.specs.List.{sum_by}
 use Rattle.std.proofs.lemmas.List.Sums.{sum_by-append}
 use Rattle.codec_accounts.specs.Bags.{SameBag}
-use Rattle.codec_desk.specs.Each.{Pairs, Each, First, OneAt, IsAt, total_of}
+use Rattle.codec_desk.specs.Each.{Pairs, Each, First, AtSome, OneAt, IsAt, total_of}
 
 -- the element that was set
 pub set_there : {A : Type 0} (i : ℕ) (us : List A) (u v : A) → slice_get us i ≡ Some u → slice_get (set us i v) i ≡ Some v
@@ -98,6 +98,41 @@ module _ {X A : Type 0} where
           after_is = subst (λ (l : List A). slice_get l place ≡ Some o.after) (sym o.after_is) (set_there place vs o.before o.after o.before_is);
           so = step o.partner back.0 o.before o.after back.2 o.so;
         }
+
+  some_set : (R : X → A → A → Type 0) (i : ℕ) (xs : List X) (us : List A) (x : X) (u v : A) → slice_get xs i ≡ Some x → slice_get us i ≡ Some u → R x u v → AtSome R xs us (set us i v)
+  some_set R i [] us x u v h at r = absurd cc
+  some_set R i (y ∷ xs) [] x u v h at r = absurd cc
+  some_set R zero (y ∷ xs) (w ∷ us) x u v h at r =
+      let e : x ≡ y = cc in
+      let f : u ≡ w = cc in
+      inl (subst (λ (z : X × A). R z.0 z.1 v) (λ i. (e i, f i)) r)
+  some_set R (suc i) (y ∷ xs) (w ∷ us) x u v h at r = inr (some_set R i xs us x u v h at r)
+
+  module _ (P Q : X → A → A → Type 0) where
+    -- the one that has changed is one of them
+    pub some_one : ((x : X) (u v : A) → P x u v → Q x u v) → (place : ℕ) (xs : List X) (us vs : List A) → OneAt place P xs us vs → AtSome Q xs us vs
+    some_one step place xs us vs o =
+        subst (λ (l : List A). AtSome Q xs us l) (sym o.after_is)
+        (some_set Q place xs us o.partner o.before o.after o.partner_is o.before_is (step o.partner o.before o.after o.so))
+
+  module _ (R S T : X → A → A → Type 0) where
+    -- one of them, and then each
+    pub some_then : ((x : X) (u v w : A) → R x u v → S x v w → T x u w) → (xs : List X) (us vs ws : List A) → AtSome R xs us vs → Each S xs vs ws → AtSome T xs us ws
+    some_then step [] us vs ws h e = absurd h
+    some_then step (x ∷ xs) [] vs ws h e = absurd h
+    some_then step (x ∷ xs) (u ∷ us) [] ws h e = absurd h
+    some_then step (x ∷ xs) (u ∷ us) (v ∷ vs) [] h e = absurd e
+    some_then step (x ∷ xs) (u ∷ us) (v ∷ vs) (w ∷ ws) (inl h) e = inl (step x u v w h e.0)
+    some_then step (x ∷ xs) (u ∷ us) (v ∷ vs) (w ∷ ws) (inr h) e = inr (some_then step xs us vs ws h e.1)
+
+    -- each, and then one of them
+    pub some_later : ((x : X) (u v w : A) → R x u v → S x v w → T x u w) → (xs : List X) (us vs ws : List A) → Each R xs us vs → AtSome S xs vs ws → AtSome T xs us ws
+    some_later step [] us vs ws e h = absurd h
+    some_later step (x ∷ xs) [] vs ws e h = absurd e
+    some_later step (x ∷ xs) (u ∷ us) [] ws e h = absurd e
+    some_later step (x ∷ xs) (u ∷ us) (v ∷ vs) [] e h = absurd h
+    some_later step (x ∷ xs) (u ∷ us) (v ∷ vs) (w ∷ ws) e (inl h) = inl (step x u v w e.0 h)
+    some_later step (x ∷ xs) (u ∷ us) (v ∷ vs) (w ∷ ws) e (inr h) = inr (some_later step xs us vs ws e.1 h)
 
   module _ (R S T : X → A → A → Type 0) where
     -- each, one step after another

@@ -6,3 +6,8 @@ pub mod Rests
 pub mod RestLaws
 pub mod Runs
 pub mod RunLaws
+pub mod Clocks
+pub mod ClockLaws
+pub mod StepLaws
+pub mod Named
+pub mod NamedLaws

@@ -1,5 +1,5 @@
 -- What a thread finds where it finds nothing to do.
-use Rattle.std.specs.Prelude.{◌≡◌, [], ◌∷◌, ◌++◌, Option, None}
+use Rattle.std.specs.Prelude.{◌≡◌, ◌⊎◌, List, [], ◌∷◌, ◌++◌, Option, None}
 use Rattle.atomic_table.specs.declared.shared.Seat.{Seat}
 use Rattle.wc_base.specs.Views.{Log}
 use Rattle.wc_base.specs.declared.seat.Passage.TheVariants.{Look}
@@ -37,3 +37,11 @@ module _ {S : Type 0} where
   -- the seat made no entry
   abbrev pub Still : Shared → Seat (Option S) (View Event) → Seat (Option S) (View Event) → Type 0
   Still s a b = MadeSince a.me.0 b.me.0 []
+
+  -- the seat made an entry at least
+  abbrev pub Stirred : Shared → Seat (Option S) (View Event) → Seat (Option S) (View Event) → Type 0
+  Stirred s a b = (e : Event) × (es : List Event) × MadeSince a.me.0 b.me.0 (e ∷ es)
+
+  -- the seat made an entry, or it rested since this was so
+  abbrev pub Served : (Shared → Log Event → Type 0) → Shared → Seat (Option S) (View Event) → Seat (Option S) (View Event) → Type 0
+  Served P s a b = Rested P s a b ⊎ Stirred s a b

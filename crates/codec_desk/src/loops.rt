@@ -1,6 +1,9 @@
 // Loops of workers and of turners.
+ghost use Rattle.std.specs.Prelude.{[]};
+ghost use Rattle.codec_desk.specs.Clocks.{EndsAt, Timed};
 ghost use Rattle.codec_desk.specs.Desks.{SitAt, Settled};
 ghost use Rattle.codec_desk.specs.Each.{Each};
+ghost use Rattle.codec_desk.specs.Named.{Calls};
 ghost use Rattle.codec_desk.specs.Rests.{Looked, NoItem, NoTask};
 ghost use Rattle.codec_desk.specs.Runs.{EachRunsNone};
 
@@ -14,7 +17,8 @@ use std::sync::atomic::{AtomicU64, Ordering};
 use std::thread;
 
 /// Works on all codecs until a whole round finds no item that may start, where that round began with no caller left. `callers`
-/// counts the callers that still go on; no clause rests on it. On each codec the seats then looked, and no item could start.
+/// counts the callers that still go on; no clause rests on it. On each codec the seats then looked, and no item could start. Each
+/// end is at a moment that the clock gave.
 pub fn item_loop<C: Coder, K: Clock, R: Wait>(
     rt: &R,
     alloc: Global,
@@ -26,10 +30,12 @@ pub fn item_loop<C: Coder, K: Clock, R: Wait>(
     requires { SitAt desk.now seats.old }
     ensures sits { SitAt desk.now seats.new }
     ensures settled { Settled desk.now seats.old seats.new }
+    ensures calls { Calls desk.now [] seats.old seats.new }
     ensures runs { EachRunsNone desk.now.codecs.items seats.old.codecs.items
         → EachRunsNone desk.now.codecs.items seats.new.codecs.items }
     ensures looked { Each (Looked NoItem)
         desk.now.codecs.items seats.old.codecs.items seats.new.codecs.items }
+    ensures timed { Timed desk.now seats.old seats.new (K.told clock.old) (K.told clock.new) }
 {
     for _ in rt.forever() {
         let over = callers.load(Ordering::SeqCst) == 0;
@@ -43,8 +49,8 @@ pub fn item_loop<C: Coder, K: Clock, R: Wait>(
 }
 
 /// Turns all codecs until a whole round finds no task, where that round began with no caller left. `callers` counts the
-/// callers that still go on; no clause rests on it. On each codec the seats then looked, and no task was queued. It takes no
-/// memory.
+/// callers that still go on; no clause rests on it. On each codec the seats then looked, and no task was queued. They make no
+/// end. It takes no memory.
 pub fn turn_loop<C: Coder, R: Wait>(
     rt: &R,
     desk: &Desk<C>,
@@ -54,9 +60,12 @@ pub fn turn_loop<C: Coder, R: Wait>(
     requires { SitAt desk.now seats.old }
     ensures sits { SitAt desk.now seats.new }
     ensures settled { Settled desk.now seats.old seats.new }
+    ensures calls { Calls desk.now [] seats.old seats.new }
     ensures runs { EachRunsNone desk.now.codecs.items seats.old.codecs.items
         → EachRunsNone desk.now.codecs.items seats.new.codecs.items }
     ensures looked { Each (Looked NoTask)
+        desk.now.codecs.items seats.old.codecs.items seats.new.codecs.items }
+    ensures ends { Each (EndsAt [])
         desk.now.codecs.items seats.old.codecs.items seats.new.codecs.items }
 {
     for _ in rt.forever() {

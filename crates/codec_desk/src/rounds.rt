@@ -1,8 +1,10 @@
 // Rounds over all codecs of a desk.
-ghost use Rattle.std.specs.Prelude.{◌≡◌, false, None};
+ghost use Rattle.std.specs.Prelude.{◌≡◌, ◌⊎◌, true, false, [], None, is_some};
+ghost use Rattle.codec_desk.specs.Clocks.{EndsAt, Timed};
 ghost use Rattle.codec_desk.specs.Desks.{SitAt, Settled};
-ghost use Rattle.codec_desk.specs.Each.{Each};
-ghost use Rattle.codec_desk.specs.Rests.{Rested, NoItem, NoTask};
+ghost use Rattle.codec_desk.specs.Each.{Each, AtSome};
+ghost use Rattle.codec_desk.specs.Named.{Calls};
+ghost use Rattle.codec_desk.specs.Rests.{Rested, Served, Stirred, NoItem, NoTask};
 ghost use Rattle.codec_desk.specs.Runs.{EachRunsNone};
 
 use crate::clock::Clock;
@@ -14,13 +16,15 @@ use std::sync::Wait;
 
 // Whether something was found, before or now.
 fn found_or(found: bool, step: Option<u64>) -> bool
-    ensures { result ≡ false → (found ≡ false) × (step ≡ None) }
+    ensures none { result ≡ false → (found ≡ false) × (step ≡ None) }
+    ensures some { result ≡ true → (found ≡ true) ⊎ (is_some step ≡ true) }
 {
     found || step.is_some()
 }
 
-/// An item of each codec, if one may start, as `work_item` does it. False only where none could start on any: on each codec
-/// the seats looked, no item could start there, and they made no entry.
+/// An item of each codec, if one may start, as `work_item` does it. On each codec the seats made an entry, or they looked and no
+/// item could start. False where they made no entry on any, and true where they did on one. Each end is at a moment that the
+/// clock gave.
 pub fn item_round<C: Coder, K: Clock, R: Wait>(
     rt: &R,
     alloc: Global,
@@ -31,10 +35,16 @@ pub fn item_round<C: Coder, K: Clock, R: Wait>(
     requires { SitAt desk.now seats.old }
     ensures sits { SitAt desk.now seats.new }
     ensures settled { Settled desk.now seats.old seats.new }
+    ensures calls { Calls desk.now [] seats.old seats.new }
     ensures runs { EachRunsNone desk.now.codecs.items seats.old.codecs.items
         → EachRunsNone desk.now.codecs.items seats.new.codecs.items }
+    ensures served { Each (Served NoItem)
+        desk.now.codecs.items seats.old.codecs.items seats.new.codecs.items }
     ensures rested { result ≡ false → Each (Rested NoItem)
         desk.now.codecs.items seats.old.codecs.items seats.new.codecs.items }
+    ensures stirred { result ≡ true → AtSome Stirred
+        desk.now.codecs.items seats.old.codecs.items seats.new.codecs.items }
+    ensures timed { Timed desk.now seats.old seats.new (K.told clock.old) (K.told clock.new) }
 {
     let mut found = false;
     for codec in 0..desk.codecs.len() {
@@ -45,15 +55,22 @@ pub fn item_round<C: Coder, K: Clock, R: Wait>(
     found
 }
 
-/// A turn of each codec, if a task is queued. False only where none was on any: on each codec the seats looked, no task was
-/// queued there, and they made no entry. It takes no memory.
+/// A turn of each codec, if a task is queued. On each codec the seats made an entry, or they looked and no task was queued. False
+/// where they made no entry on any, and true where they did on one. They make no end. It takes no memory.
 pub fn turn_round<C: Coder, R: Wait>(rt: &R, desk: &Desk<C>, seats: &mut Seats<C>) -> bool
     requires { SitAt desk.now seats.old }
     ensures sits { SitAt desk.now seats.new }
     ensures settled { Settled desk.now seats.old seats.new }
+    ensures calls { Calls desk.now [] seats.old seats.new }
     ensures runs { EachRunsNone desk.now.codecs.items seats.old.codecs.items
         → EachRunsNone desk.now.codecs.items seats.new.codecs.items }
+    ensures served { Each (Served NoTask)
+        desk.now.codecs.items seats.old.codecs.items seats.new.codecs.items }
     ensures rested { result ≡ false → Each (Rested NoTask)
+        desk.now.codecs.items seats.old.codecs.items seats.new.codecs.items }
+    ensures stirred { result ≡ true → AtSome Stirred
+        desk.now.codecs.items seats.old.codecs.items seats.new.codecs.items }
+    ensures ends { Each (EndsAt [])
         desk.now.codecs.items seats.old.codecs.items seats.new.codecs.items }
 {
     let mut found = false;

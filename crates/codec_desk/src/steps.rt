@@ -1,11 +1,13 @@
 // Steps of work on one codec of a desk.
-ghost use Rattle.std.specs.Prelude.{ℕ, ◌≡◌, ◌<◌, length};
+ghost use Rattle.std.specs.Prelude.{ℕ, ◌≡◌, ◌<◌, [], length};
 ghost use Rattle.shared_codec.specs.Calls.{MayAlways};
 ghost use Rattle.shared_codec.specs.Looks.{EndTells};
+ghost use Rattle.shared_codec.specs.Names.{answered_calls};
 ghost use Rattle.shared_codec.specs.Settled.{AnswerTells, TurnOnceTells};
 ghost use Rattle.shared_codec.specs.Workers.{WorkTells};
 ghost use Rattle.codec_desk.specs.Desks.{SitAt, Settled};
 ghost use Rattle.codec_desk.specs.Each.{OneAt};
+ghost use Rattle.codec_desk.specs.Named.{Calls};
 ghost use Rattle.codec_desk.specs.Runs.{EachRunsNone};
 
 use crate::desk::{Desk, Seats};
@@ -34,6 +36,7 @@ pub fn work_item<C: Coder, R: Wait>(
         (λ s a b. WorkTells s desk.now.slots moment result a b seats.old.slots.me.0)
         desk.now.codecs.items seats.old.codecs.items seats.new.codecs.items }
     ensures settled { Settled desk.now seats.old seats.new }
+    ensures calls { Calls desk.now [] seats.old seats.new }
     ensures runs { EachRunsNone desk.now.codecs.items seats.old.codecs.items
         → EachRunsNone desk.now.codecs.items seats.new.codecs.items }
 {
@@ -66,6 +69,7 @@ pub fn call_once<C: Coder, R: Wait>(
     ensures called { OneAt codec (λ s a b. AnswerTells s who call result a b)
         desk.now.codecs.items seats.old.codecs.items seats.new.codecs.items }
     ensures settled { Settled desk.now seats.old seats.new }
+    ensures calls { Calls desk.now (answered_calls codec who call result) seats.old seats.new }
     ensures runs { EachRunsNone desk.now.codecs.items seats.old.codecs.items
         → EachRunsNone desk.now.codecs.items seats.new.codecs.items }
 {
@@ -96,6 +100,7 @@ pub fn turn_once<C: Coder, R: Wait>(
     ensures turned { OneAt codec (λ s a b. TurnOnceTells s result a b)
         desk.now.codecs.items seats.old.codecs.items seats.new.codecs.items }
     ensures settled { Settled desk.now seats.old seats.new }
+    ensures calls { Calls desk.now [] seats.old seats.new }
     ensures runs { EachRunsNone desk.now.codecs.items seats.old.codecs.items
         → EachRunsNone desk.now.codecs.items seats.new.codecs.items }
 {
@@ -124,6 +129,7 @@ pub fn promise_state<C: Coder, R: Wait>(
     ensures looked { OneAt codec (λ s a b. EndTells s promise result a b)
         desk.now.codecs.items seats.old.codecs.items seats.new.codecs.items }
     ensures settled { Settled desk.now seats.old seats.new }
+    ensures calls { Calls desk.now [] seats.old seats.new }
     ensures runs { EachRunsNone desk.now.codecs.items seats.old.codecs.items
         → EachRunsNone desk.now.codecs.items seats.new.codecs.items }
 {

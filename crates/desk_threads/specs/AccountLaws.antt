@@ -121,15 +121,15 @@ all_codecs (e ∷ es) none =
 
 module _ {S : Type 0} {D : Type 0} (due : ℕ → Event → Track → List D) where
   -- what is left of a seat calls for what it called for, and a new seat for nothing
-  left_dues : (s : Shared) (u v w : Seat (Option S) (View Event)) → IsSplit s.id u v w → dues_of due s.codec s.opening v.me.0 ≡ dues_of due s.codec s.opening u.me.0
+  pub left_dues : (s : Shared) (u v w : Seat (Option S) (View Event)) → IsSplit s.id u v w → dues_of due s.codec s.opening v.me.0 ≡ dues_of due s.codec s.opening u.me.0
   left_dues s u v w split = ap (λ (m : Sitting S Event). dues_by due s.codec m.0.numbers (opening_track s.opening) m.0.log) split.left.1
 
-  new_dues : (s : Shared) (u v w : Seat (Option S) (View Event)) → IsSplit s.id u v w → dues_of due s.codec s.opening w.me.0 ≡ []
+  pub new_dues : (s : Shared) (u v w : Seat (Option S) (View Event)) → IsSplit s.id u v w → dues_of due s.codec s.opening w.me.0 ≡ []
   new_dues s u v w split =
       ap (λ (m : Sitting S Event). dues_by due s.codec m.0.numbers (opening_track s.opening) m.0.log) split.new.view
       ∙ none_due due s.codec (split.new.number ∷ []) (opening_track s.opening) u.me.0.log split.new.made_none
 
-  both_dues : DuesAddUp due → (s : Shared) (u v w : Seat (Option S) (View Event)) → IsJoin u v w → SameBag (dues_of due s.codec s.opening w.me.0) (dues_of due s.codec s.opening u.me.0 ++ dues_of due s.codec s.opening v.me.0)
+  pub both_dues : DuesAddUp due → (s : Shared) (u v w : Seat (Option S) (View Event)) → IsJoin u v w → SameBag (dues_of due s.codec s.opening w.me.0) (dues_of due s.codec s.opening u.me.0 ++ dues_of due s.codec s.opening v.me.0)
   both_dues add s u v w join =
       add.joined s.codec s.opening u.me.0 v.me.0 w.me.0
       (record { numbers = ap (λ (m : Sitting S Event). m.0.numbers) join.both.view; one = join.both.continues_one; other = join.both.continues_other; apart = join.both.apart })
@@ -162,7 +162,7 @@ grows_to m n is t = ap (sum_by t) is
 
 module _ {S D : Type 0} (f : Shared → Seat (Option S) (View Event) → List D) where
   -- what all of them come to, where they have seen nothing
-  saw_none : ((s : Shared) (u : Seat (Option S) (View Event)) → u.me.0.log ≡ [] → f s u ≡ []) → (xs : List Shared) (us : List (Seat (Option S) (View Event))) → EachSawNone us → total_of f xs us ≡ []
+  pub saw_none : ((s : Shared) (u : Seat (Option S) (View Event)) → u.me.0.log ≡ [] → f s u ≡ []) → (xs : List Shared) (us : List (Seat (Option S) (View Event))) → EachSawNone us → total_of f xs us ≡ []
   saw_none none [] us h = refl
   saw_none none (x ∷ xs) [] h = refl
   saw_none none (x ∷ xs) (u ∷ us) h = (λ i. none x u h.0 i ++ saw_none none xs us h.1 i)

@@ -1,5 +1,5 @@
 -- The account of a thread: what its entries call for elsewhere, and what it made there.
-use Rattle.std.specs.Prelude.{◌≡◌, Bool, true, false, List, [], ◌∷◌, map, Option}
+use Rattle.std.specs.Prelude.{◌≡◌, Bool, true, false, List, [], ◌∷◌, ◌++◌, map, Option}
 use Rattle.std.specs.List.{filter}
 use Rattle.atomic_table.specs.declared.shared.Seat.{Seat}
 use Rattle.wc_base.specs.declared.seat.View.{View}
@@ -12,13 +12,14 @@ use Rattle.seat_lock.specs.Logs.{AllBy, entries_of}
 use Rattle.seat_lock.specs.Since.{entries_by}
 use Rattle.codec_logs.specs.declared.event.Event.{Event}
 use Rattle.codec_logs.specs.Logs.{opening_track}
-use Rattle.shared_codec.specs.Dues.{slot_dues, media_dues}
+use Rattle.shared_codec.specs.Dues.{Called, slot_dues, media_dues, call_dues}
 use Rattle.shared_codec.specs.Shared.{Shared}
 use Rattle.shared_codec.specs.Sums.{all_dues}
 use Rattle.codec_desk.specs.declared.desk.Desk.{Desk}
 use Rattle.codec_desk.specs.declared.desk.Seats.{Seats}
 use Rattle.codec_desk.specs.Desks.{told, entry_for, slot_calls, pool_calls, Settled}
 use Rattle.codec_desk.specs.Each.{total_of}
+use Rattle.codec_desk.specs.Named.{calls_made, Calls}
 
 -- the entries of the passages of a seat, and of those that it took in, in order
 abbrev pub made_by : {E : Type 0} → View E → List E
@@ -40,6 +41,10 @@ module _ {C : Type 0} where
     pub slots : SameBag (slot_calls desk.codecs.items a.codecs.items) (made_by a.slots.me.0)
     pub pool : SameBag (pool_calls desk.codecs.items a.codecs.items) (for_codecs (made_by a.pool.me.0))
 
+  -- The calls of callers among all entries of a thread are these, each as often, in any order.
+  abbrev pub Named : Desk C → List Called → Seats C → Type 0
+  Named desk calls a = SameBag (calls_made desk.codecs.items a.codecs.items) calls
+
 module _ {S : Type 0} where
   -- none of these seats has seen a passage
   abbrev pub EachSawNone : List (Seat (Option S) (View Event)) → Type 0
@@ -57,6 +62,10 @@ module _ {S : Type 0} where
 
   abbrev pub all_pool_calls : List Shared → List (Seat (Option S) (View Event)) → List PoolEntry
   all_pool_calls codecs seats = total_of (λ s a. map (entry_for s.codec) (all_dues media_dues s.codec (opening_track s.opening) a.me.0.log)) codecs seats
+
+  -- the calls of callers in the logs that these seats have seen
+  abbrev pub all_calls : List Shared → List (Seat (Option S) (View Event)) → List Called
+  all_calls codecs seats = total_of (λ s a. all_dues call_dues s.codec (opening_track s.opening) a.me.0.log) codecs seats
 
 module _ {C : Type 0} where
   -- the seats have seen no passage
@@ -88,3 +97,15 @@ AccountsAreKept C = (desk : Desk C) (a b : Seats C) → Settled desk a b → Bal
 -- of balanced seats that have all passages the histories are what the logs call for
 abbrev pub AccountsAreHistories : Type 0 → Type 0
 AccountsAreHistories C = (desk : Desk C) (a : Seats C) → AreAll a → Balanced desk a → AllBalanced desk a
+
+-- seats that have seen nothing made no calls
+abbrev pub CallsBegin : Type 0 → Type 0
+CallsBegin C = (desk : Desk C) (a : Seats C) → SawNone a → Named desk [] a
+
+-- the calls that a thread made are those of before, and those that it made since
+abbrev pub CallsAreKept : Type 0 → Type 0
+CallsAreKept C = (desk : Desk C) (a b : Seats C) (before since : List Called) → Calls desk since a b → Named desk before a → Named desk (before ++ since) b
+
+-- the calls of seats that have all passages are all calls in the logs
+abbrev pub CallsAreHistories : Type 0 → Type 0
+CallsAreHistories C = (desk : Desk C) (a : Seats C) (calls : List Called) → AreAll a → Named desk calls a → SameBag (all_calls desk.codecs.items a.codecs.items) calls

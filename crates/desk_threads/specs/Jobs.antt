@@ -1,15 +1,17 @@
 -- What the job of a thread is before it is done, and what was done.
-use Rattle.std.specs.Prelude.{ℕ, ◌≡◌, List, length, Some, slice_get}
+use Rattle.std.specs.Prelude.{ℕ, ◌≡◌, List, [], Option, Some, slice_get}
 use Rattle.codec_desk.specs.declared.desk.Desk.{Desk}
 use Rattle.codec_desk.specs.declared.desk.Seats.{Seats}
+use Rattle.codec_desk.specs.Clocks.{Timed}
 use Rattle.codec_desk.specs.Desks.{SitAt, Settled}
 use Rattle.codec_desk.specs.Each.{Each}
+use Rattle.codec_desk.specs.Named.{Calls}
 use Rattle.codec_desk.specs.Rests.{Looked, NoItem, NoTask}
 use Rattle.codec_desk.specs.Runs.{EachRunsNone}
 use Rattle.desk_threads.specs.declared.jobs.Job.{Job}
 use Rattle.desk_threads.specs.declared.jobs.Role.{Role}
 use Rattle.desk_threads.specs.declared.jobs.Role.TheVariants as role
-use Rattle.desk_threads.specs.Accounts.{Balanced}
+use Rattle.desk_threads.specs.Accounts.{Balanced, Named}
 use Rattle.desk_threads.specs.Parts.{HaveParts}
 
 module _ {C : Type 0} (desk : Desk C) where
@@ -27,10 +29,18 @@ module _ {C K : Type 0} (desk : Desk C) where
     pub balanced : Balanced desk job.seats
     pub runs : EachRunsNone desk.codecs.items job.seats.codecs.items
 
+  abbrev pub AreReady : List (Job C K) → Type 0
+  AreReady jobs = (i : ℕ) (job : Job C K) → slice_get jobs i ≡ Some job → IsReady job
+
+  -- the seats of none of these jobs made a call of a caller
+  abbrev pub NoneCalled : List (Job C K) → Type 0
+  NoneCalled jobs = (i : ℕ) (job : Job C K) → slice_get jobs i ≡ Some job → Named desk [] job.seats
+
+-- of clocks that tell these moments
+module _ {C K : Type 0} (told : K → Option (List ℕ)) (desk : Desk C) where
   pub record IsDone (was job : Job C K) : Type 0 where
     pub role : job.role ≡ was.role
     pub settled : Settled desk was.seats job.seats
+    pub calls : Calls desk [] was.seats job.seats
     pub found : Found desk was.role was.seats job.seats
-
-  abbrev pub AreReady : List (Job C K) → Type 0
-  AreReady jobs = (i : ℕ) (job : Job C K) → slice_get jobs i ≡ Some job → IsReady job
+    pub timed : Timed desk was.seats job.seats (told was.clock) (told job.clock)

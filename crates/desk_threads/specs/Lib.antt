@@ -7,3 +7,4 @@ pub mod Jobs
 pub mod Rested
 pub mod Runs
 pub mod RunLaws
+pub mod CallLaws

@@ -1,9 +1,10 @@
 // What threads do on a desk, each through seats of its own.
-ghost use Rattle.std.specs.Prelude.{ℕ, ◌+◌, length};
+ghost use Rattle.std.specs.Prelude.{ℕ, ◌+◌, List, length};
+ghost use Rattle.shared_codec.specs.Dues.{Called};
 ghost use Rattle.codec_desk.specs.Desks.{SitAt};
 ghost use Rattle.codec_desk.specs.Runs.{EachRunsNone};
-ghost use Rattle.desk_threads.specs.Accounts.{Balanced};
-ghost use Rattle.desk_threads.specs.Jobs.{IsReady, IsDone, AreReady};
+ghost use Rattle.desk_threads.specs.Accounts.{Balanced, Named};
+ghost use Rattle.desk_threads.specs.Jobs.{IsReady, IsDone, AreReady, NoneCalled};
 ghost use Rattle.desk_threads.specs.Parts.{HaveParts};
 
 use crate::parts::join_seats;
@@ -31,7 +32,7 @@ pub struct Job<C: Coder, K> {
 }
 
 /// Does a job to its end, once a whole round that began with no caller left found nothing. `callers` counts the callers that still
-/// go on, and no clause rests on it.
+/// go on, and no clause rests on it. Each end is at a moment that the job's clock gave.
 pub fn run_job<C: Coder, K: Clock, R: Wait>(
     rt: &R,
     alloc: Global,
@@ -41,7 +42,7 @@ pub fn run_job<C: Coder, K: Clock, R: Wait>(
 )
     requires { IsReady desk.now job.old }
     ensures ready { IsReady desk.now job.new }
-    ensures done { IsDone desk.now job.old job.new }
+    ensures done { IsDone K.told desk.now job.old job.new }
 {
     match job.role {
         Role::Worker => {
@@ -59,6 +60,8 @@ pub fn join_jobs<C: Coder, K: Drop>(desk: &Desk<C>, seats: &mut Seats<C>, jobs: 
     ensures parts { (n : ℕ) → HaveParts n seats.old
         → HaveParts (n + length jobs.items) seats.new }
     ensures balanced { Balanced desk.now seats.old → Balanced desk.now seats.new }
+    ensures calls { NoneCalled desk.now jobs.items → (calls : List Called)
+        → Named desk.now calls seats.old → Named desk.now calls seats.new }
     ensures runs { EachRunsNone desk.now.codecs.items seats.old.codecs.items
         → EachRunsNone desk.now.codecs.items seats.new.codecs.items }
 {

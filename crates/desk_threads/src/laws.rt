@@ -1,5 +1,6 @@
 // Laws of the accounts of threads, and of desks with nothing left to do.
 ghost use Rattle.desk_threads.specs.Accounts.{AccountsBegin, AccountsAreKept, AccountsAreHistories};
+ghost use Rattle.desk_threads.specs.Accounts.{CallsBegin, CallsAreKept, CallsAreHistories};
 ghost use Rattle.desk_threads.specs.Runs.{RestIsQuiet};
 
 use coder_api::Coder;
@@ -19,4 +20,12 @@ pub fn accounts_are_kept<C: Coder>()
 /// quiet: no item is at work, none may start, and no event task is queued.
 pub fn rest_is_quiet<C: Coder>()
     ensures { RestIsQuiet C }
+{}
+
+/// Law: seats that have seen nothing made no calls of callers, and the calls that a thread made are those of before with those that
+/// it made since. Of seats that have all passages they are all calls in the codecs' logs.
+pub fn calls_are_kept<C: Coder>()
+    ensures first { CallsBegin C }
+    ensures kept { CallsAreKept C }
+    ensures all { CallsAreHistories C }
 {}

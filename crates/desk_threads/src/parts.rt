@@ -1,8 +1,9 @@
 // Seats at all locks of a desk, split off and joined.
-ghost use Rattle.std.specs.Prelude.{ℕ, ◌≡◌, ◌+◌, ◌-◌, ◌≤◌, [], length, vec_capacity};
+ghost use Rattle.std.specs.Prelude.{ℕ, ◌≡◌, ◌+◌, ◌-◌, ◌≤◌, ◌++◌, List, [], length, vec_capacity};
+ghost use Rattle.shared_codec.specs.Dues.{Called};
 ghost use Rattle.codec_desk.specs.Desks.{SitAt};
 ghost use Rattle.codec_desk.specs.Runs.{EachRunsNone};
-ghost use Rattle.desk_threads.specs.Accounts.{Balanced};
+ghost use Rattle.desk_threads.specs.Accounts.{Balanced, Named};
 ghost use Rattle.desk_threads.specs.Parts.{HaveParts, AreSplit, AreTakenIn};
 
 use codec_desk::{Desk, Seats};
@@ -26,6 +27,9 @@ pub fn split_seats<C: Coder>(
     ensures parts { HaveParts (seats.old.pool.me.0.parts - 1) seats.new × HaveParts 1 result }
     ensures balanced { Balanced desk.now seats.old → Balanced desk.now seats.new }
     ensures new { Balanced desk.now result }
+    ensures calls { (calls : List Called) → Named desk.now calls seats.old
+        → Named desk.now calls seats.new }
+    ensures new_calls { Named desk.now [] result }
     ensures runs { EachRunsNone desk.now.codecs.items seats.old.codecs.items
         → EachRunsNone desk.now.codecs.items seats.new.codecs.items }
     ensures new_runs { EachRunsNone desk.now.codecs.items result.codecs.items }
@@ -54,6 +58,8 @@ pub fn join_seats<C: Coder>(desk: &Desk<C>, seats: &mut Seats<C>, other: Seats<C
         → HaveParts (m + n) seats.new }
     ensures balanced { Balanced desk.now seats.old → Balanced desk.now other
         → Balanced desk.now seats.new }
+    ensures calls { (xs ys : List Called) → Named desk.now xs seats.old
+        → Named desk.now ys other → Named desk.now (xs ++ ys) seats.new }
     ensures runs { EachRunsNone desk.now.codecs.items seats.old.codecs.items
         → EachRunsNone desk.now.codecs.items other.codecs.items
         → EachRunsNone desk.now.codecs.items seats.new.codecs.items }

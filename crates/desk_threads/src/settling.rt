@@ -1,6 +1,7 @@
 // All that is left to do on a desk.
-ghost use Rattle.std.specs.Prelude.{◌≡◌, false};
+ghost use Rattle.std.specs.Prelude.{◌≡◌, [], false};
 ghost use Rattle.codec_desk.specs.Desks.{SitAt, Settled};
+ghost use Rattle.codec_desk.specs.Named.{Calls};
 ghost use Rattle.codec_desk.specs.Runs.{EachRunsNone};
 ghost use Rattle.desk_threads.specs.Rested.{CameToRest};
 
@@ -27,6 +28,7 @@ pub fn settle_desk<C: Coder, K: Clock, R: Wait>(
     requires { SitAt desk.now seats.old }
     ensures sits { SitAt desk.now seats.new }
     ensures settled { Settled desk.now seats.old seats.new }
+    ensures calls { Calls desk.now [] seats.old seats.new }
     ensures runs { EachRunsNone desk.now.codecs.items seats.old.codecs.items
         → EachRunsNone desk.now.codecs.items seats.new.codecs.items }
     ensures rested { CameToRest desk.now seats.old seats.new }

@@ -1,19 +1,26 @@
-use Rattle.std.proofs.Common.{◌∙◌, arith}
+use Rattle.std.proofs.Common.{◌∙◌, [], ⊎_elim, arith}
 use Rattle.shared_codec.specs.Workers.{WorkTells}
+use Rattle.codec_desk.specs.ClockLaws.{timed_none, timed_then, timed_by}
 use Rattle.codec_desk.specs.EachLaws.{one_so}
+use Rattle.codec_desk.specs.StepLaws.{served_worked, stirred_worked}
 use Rattle.codec_desk.specs.DeskLaws.{settled_none, settled_then}
-use Rattle.codec_desk.specs.Rests.{Rested, NoItem}
-use Rattle.codec_desk.proofs.Going.{no_item, round_none, round_more, round_all}
+use Rattle.codec_desk.specs.NamedLaws.{calls_none, calls_then}
+use Rattle.codec_desk.specs.Rests.{Rested, Served, NoItem}
+use Rattle.codec_desk.proofs.Going.{no_item, round_none, round_more, round_all, serve_none, serve_more, serve_all, stir_then, stir_one, item_ends}
 use Rattle.codec_desk.proofs.rounds.item_round.Goals as goal
 
 pub loop-codec-init : goal.loop-codec-init
 loop-codec-init g c = record {
   sits = c.requires;
   settled = settled_none c.args.desk.now c.args.seats.now c.requires;
+  calls = calls_none c.args.desk.now c.args.seats.now;
   runs = λ none. none;
   end = c.len-codec-end.ensures ∙ c.args.desk.now.codecs.ok.0;
   below = omega arith;
   rested = λ none. round_none NoItem c.args.desk.now.pool c.args.desk.now.slots.id c.args.desk.now.codecs.items c.args.seats.now.codecs.items c.requires.codecs;
+  served = serve_none NoItem c.args.desk.now.pool c.args.desk.now.slots.id c.args.desk.now.codecs.items c.args.seats.now.codecs.items c.requires.codecs;
+  stirred = λ yes. absurd cc;
+  timed = timed_none c.args.desk.now c.args.seats.now (g.K.Clock.told c.args.clock.now) c.requires;
 }
 
 pub work_item-worked-requires-clause-sits : goal.work_item-worked-requires-clause-sits
@@ -33,12 +40,22 @@ loop-codec-preserved g c =
     record {
       sits = e.sits;
       settled = settled_then c.args.desk.now c.args.seats.now c.loop-codec.seats c.work_item-worked.new.seats i.settled e.settled;
+      calls = calls_then c.args.desk.now c.args.seats.now c.loop-codec.seats c.work_item-worked.new.seats [] [] i.calls e.calls;
       runs = λ none. e.runs (i.runs none);
       end = i.end;
       below = omega (arith, lt);
-      rested = λ none. (let n = c.found_or-found.ensures none in
+      rested = λ none. (let n = c.found_or-found.ensures.none none in
           round_more NoItem c.loop-codec.codec c.args.desk.now.codecs.items c.args.seats.now.codecs.items c.loop-codec.seats.codecs.items c.work_item-worked.new.seats.codecs.items (i.rested n.0)
           (one_so (λ s a b. WorkTells s c.args.desk.now.slots c.now-moment.result c.work_item-worked.result a b c.loop-codec.seats.slots.me.0) (Rested NoItem) (no_item c.args.desk.now.slots c.now-moment.result c.work_item-worked.result c.loop-codec.seats.slots.me.0 n.1) c.loop-codec.codec c.args.desk.now.codecs.items c.loop-codec.seats.codecs.items c.work_item-worked.new.seats.codecs.items e.worked));
+      served = serve_more NoItem c.loop-codec.codec c.args.desk.now.codecs.items c.args.seats.now.codecs.items c.loop-codec.seats.codecs.items c.work_item-worked.new.seats.codecs.items i.served
+          (one_so (λ s a b. WorkTells s c.args.desk.now.slots c.now-moment.result c.work_item-worked.result a b c.loop-codec.seats.slots.me.0) (Served NoItem) (served_worked c.args.desk.now.slots c.now-moment.result c.work_item-worked.result c.loop-codec.seats.slots.me.0) c.loop-codec.codec c.args.desk.now.codecs.items c.loop-codec.seats.codecs.items c.work_item-worked.new.seats.codecs.items e.worked);
+      stirred = λ yes. ⊎_elim
+          (λ was. stir_then c.args.desk.now.codecs.items c.args.seats.now.codecs.items c.loop-codec.seats.codecs.items c.work_item-worked.new.seats.codecs.items (i.stirred was) e.settled.seats)
+          (λ is. stir_one (λ s a b. WorkTells s c.args.desk.now.slots c.now-moment.result c.work_item-worked.result a b c.loop-codec.seats.slots.me.0) (stirred_worked c.args.desk.now.slots c.now-moment.result c.work_item-worked.result c.loop-codec.seats.slots.me.0 is) c.loop-codec.codec c.args.desk.now.codecs.items c.args.seats.now.codecs.items c.loop-codec.seats.codecs.items c.work_item-worked.new.seats.codecs.items i.settled.seats e.worked)
+          (c.found_or-found.ensures.some yes);
+      timed = timed_then c.args.desk.now c.args.seats.now c.loop-codec.seats c.work_item-worked.new.seats (g.K.Clock.told c.args.clock.now) (g.K.Clock.told c.loop-codec.clock) (g.K.Clock.told c.now-moment.new.self) i.timed
+          (timed_by c.args.desk.now c.loop-codec.seats c.work_item-worked.new.seats (g.K.Clock.told c.loop-codec.clock) (g.K.Clock.told c.now-moment.new.self) c.now-moment.result c.now-moment.ensures
+          (item_ends c.args.desk.now.pool c.args.desk.now.slots.id c.loop-codec.codec c.args.desk.now.slots c.now-moment.result c.work_item-worked.result c.loop-codec.seats.slots.me.0 c.args.desk.now.codecs.items c.loop-codec.seats.codecs.items c.work_item-worked.new.seats.codecs.items i.sits.codecs e.worked));
     }
 
 pub returns-clause-sits : goal.returns-clause-sits
@@ -57,3 +74,20 @@ returns-clause-rested g c =
 
 pub returns-clause-runs : goal.returns-clause-runs
 returns-clause-runs g c = c.loop-codec.invariant.runs
+
+pub returns-clause-served : goal.returns-clause-served
+returns-clause-served g c =
+    let i = c.loop-codec.invariant in
+    let over = c.loop-codec-test.false in
+    let end = i.end in
+    let below = i.below in
+    serve_all NoItem c.loop-codec.codec c.args.desk.now.codecs.items c.args.seats.now.codecs.items c.loop-codec.seats.codecs.items (omega (arith, over, end, below)) i.served
+
+pub returns-clause-stirred : goal.returns-clause-stirred
+returns-clause-stirred g c = c.loop-codec.invariant.stirred
+
+pub returns-clause-timed : goal.returns-clause-timed
+returns-clause-timed g c = c.loop-codec.invariant.timed
+
+pub returns-clause-calls : goal.returns-clause-calls
+returns-clause-calls g c = c.loop-codec.invariant.calls

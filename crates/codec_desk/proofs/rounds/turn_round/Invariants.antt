@@ -1,7 +1,9 @@
-use Rattle.std.proofs.Common.{◌≡◌, ◌≤◌, length, false}
+use Rattle.std.proofs.Common.{◌≡◌, ◌≤◌, [], length, true, false}
+use Rattle.codec_desk.specs.Clocks.{EndsAt}
 use Rattle.codec_desk.specs.Desks.{SitAt, Settled}
-use Rattle.codec_desk.specs.Each.{First}
-use Rattle.codec_desk.specs.Rests.{Rested, Still, NoTask}
+use Rattle.codec_desk.specs.Each.{Each, First, AtSome}
+use Rattle.codec_desk.specs.Named.{Calls}
+use Rattle.codec_desk.specs.Rests.{Rested, Served, Still, Stirred, NoTask}
 use Rattle.codec_desk.specs.Runs.{EachRunsNone}
 use Rattle.codec_desk.proofs.rounds.turn_round.Given as goal
 
@@ -10,8 +12,12 @@ abbrev pub invariant-loop-codec : goal.invariant-loop-codec
 invariant-loop-codec g l = record {
   sits : SitAt l.fn.desk l.seats;
   settled : Settled l.fn.desk l.fn.seats l.seats;
+  calls : Calls l.fn.desk [] l.fn.seats l.seats;
   runs : EachRunsNone l.fn.desk.codecs.items l.fn.seats.codecs.items → EachRunsNone l.fn.desk.codecs.items l.seats.codecs.items;
   end : l.codec-end ≡ length l.fn.desk.codecs.items;
   below : l.codec ≤ l.codec-end;
   rested : l.found ≡ false → First (Rested NoTask) Still l.codec l.fn.desk.codecs.items l.fn.seats.codecs.items l.seats.codecs.items;
+  served : First (Served NoTask) Still l.codec l.fn.desk.codecs.items l.fn.seats.codecs.items l.seats.codecs.items;
+  stirred : l.found ≡ true → AtSome Stirred l.fn.desk.codecs.items l.fn.seats.codecs.items l.seats.codecs.items;
+  ends : Each (EndsAt []) l.fn.desk.codecs.items l.fn.seats.codecs.items l.seats.codecs.items;
 }

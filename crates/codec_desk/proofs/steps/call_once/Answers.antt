@@ -3,6 +3,7 @@ use Rattle.std.specs.Prelude.{slice_get}
 use Rattle.std.proofs.lemmas.Option.{slice_get_read}
 use Rattle.shared_codec.specs.Settled.{AnswerTells}
 use Rattle.codec_desk.specs.DeskLaws.{settled_one, sit_after}
+use Rattle.codec_desk.specs.NamedLaws.{answered_at}
 use Rattle.codec_desk.specs.RunLaws.{none_at, none_answered}
 use Rattle.codec_desk.proofs.Going.{sit_length, sit_get}
 use Rattle.codec_desk.proofs.steps.call_once.Goals as goal
@@ -76,3 +77,7 @@ returns-clause-sits g c =
 pub returns-clause-runs : goal.returns-clause-runs
 returns-clause-runs g c none =
     none_at (λ s a b. AnswerTells s c.args.who c.args.call c.call_once.result a b) (λ s a b told. none_answered s c.args.who c.args.call c.call_once.result a b told) c.args.codec c.args.desk.now.codecs.items c.args.seats.now.codecs.items _ (returns-clause-called g c) none
+
+pub returns-clause-calls : goal.returns-clause-calls
+returns-clause-calls g c =
+    answered_at c.args.desk.now.pool c.args.desk.now.slots.id c.args.codec c.args.who c.args.call c.call_once.result c.args.desk.now.codecs.items c.args.seats.now.codecs.items _ c.requires.sits.codecs (returns-clause-called g c)

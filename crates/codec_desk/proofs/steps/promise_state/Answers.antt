@@ -3,6 +3,7 @@ use Rattle.std.specs.Prelude.{slice_get}
 use Rattle.std.proofs.lemmas.Option.{slice_get_read}
 use Rattle.shared_codec.specs.Looks.{EndTells}
 use Rattle.codec_desk.specs.DeskLaws.{settled_one, sit_after}
+use Rattle.codec_desk.specs.NamedLaws.{looked_calls}
 use Rattle.codec_desk.specs.RunLaws.{none_at, none_seen}
 use Rattle.codec_desk.proofs.Going.{sit_length, sit_get}
 use Rattle.shared_codec.specs.Keeps.{keeps_none}
@@ -64,3 +65,7 @@ returns-clause-sits g c =
 pub returns-clause-runs : goal.returns-clause-runs
 returns-clause-runs g c none =
     none_at (λ s a b. EndTells s c.args.promise c.end_of.result a b) (λ s a b told. none_seen s c.args.promise c.end_of.result a b told) c.args.codec c.args.desk.now.codecs.items c.args.seats.now.codecs.items _ (returns-clause-looked g c) none
+
+pub returns-clause-calls : goal.returns-clause-calls
+returns-clause-calls g c =
+    looked_calls c.args.codec c.args.promise c.end_of.result c.args.desk.now.codecs.items c.args.seats.now.codecs.items _ (returns-clause-looked g c)

@@ -3,6 +3,7 @@ use Rattle.std.specs.Prelude.{slice_get}
 use Rattle.std.proofs.lemmas.Option.{slice_get_read}
 use Rattle.shared_codec.specs.Settled.{TurnOnceTells}
 use Rattle.codec_desk.specs.DeskLaws.{settled_one, sit_after}
+use Rattle.codec_desk.specs.NamedLaws.{turned_calls}
 use Rattle.codec_desk.specs.RunLaws.{none_at, none_turned}
 use Rattle.codec_desk.proofs.Going.{sit_length, sit_get}
 use Rattle.codec_desk.proofs.steps.turn_once.Goals as goal
@@ -76,3 +77,7 @@ returns-clause-sits g c =
 pub returns-clause-runs : goal.returns-clause-runs
 returns-clause-runs g c none =
     none_at (λ s a b. TurnOnceTells s c.turn_once.result a b) (λ s a b told. none_turned s c.turn_once.result a b told) c.args.codec c.args.desk.now.codecs.items c.args.seats.now.codecs.items _ (returns-clause-turned g c) none
+
+pub returns-clause-calls : goal.returns-clause-calls
+returns-clause-calls g c =
+    turned_calls c.args.codec c.turn_once.result c.args.desk.now.codecs.items c.args.seats.now.codecs.items _ (returns-clause-turned g c)

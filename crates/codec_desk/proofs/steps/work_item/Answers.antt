@@ -3,6 +3,7 @@ use Rattle.std.specs.Prelude.{slice_get}
 use Rattle.std.proofs.lemmas.Option.{slice_get_read}
 use Rattle.shared_codec.specs.Workers.{WorkTells}
 use Rattle.codec_desk.specs.DeskLaws.{settled_one, sit_after}
+use Rattle.codec_desk.specs.NamedLaws.{worked_calls}
 use Rattle.codec_desk.specs.RunLaws.{none_at, none_worked}
 use Rattle.codec_desk.proofs.Going.{sit_length, sit_get}
 use Rattle.codec_desk.proofs.steps.work_item.Goals as goal
@@ -76,3 +77,7 @@ returns-clause-sits g c =
 pub returns-clause-runs : goal.returns-clause-runs
 returns-clause-runs g c none =
     none_at (λ s a b. WorkTells s c.args.desk.now.slots c.args.moment c.work_once.result a b c.args.seats.now.slots.me.0) (λ s a b told. none_worked s c.args.desk.now.slots c.args.moment c.work_once.result a b c.args.seats.now.slots.me.0 told) c.args.codec c.args.desk.now.codecs.items c.args.seats.now.codecs.items _ (returns-clause-worked g c) none
+
+pub returns-clause-calls : goal.returns-clause-calls
+returns-clause-calls g c =
+    worked_calls c.args.codec c.args.desk.now.slots c.args.moment c.work_once.result c.args.seats.now.slots.me.0 c.args.desk.now.codecs.items c.args.seats.now.codecs.items _ (returns-clause-worked g c)

@@ -1,7 +1,8 @@
 use Rattle.std.proofs.Common.{rules, ℕ, ◌+◌, List, length, sym, ap, subst, arith}
 use Rattle.desk_threads.specs.declared.jobs.Job.{Job}
+use Rattle.desk_threads.specs.CallLaws.{named_same}
 use Rattle.desk_threads.specs.Parts.{HaveParts}
-use Rattle.desk_threads.proofs.Joining.{AllReady, all_ready, parts_more}
+use Rattle.desk_threads.proofs.Joining.{AllReady, AllUncalled, all_ready, all_uncalled, parts_more}
 use Rattle.desk_threads.proofs.jobs.join_jobs.Goals as goal
 
 pub loop-job-init : goal.loop-job-init
@@ -13,6 +14,8 @@ loop-job-init g c =
       sits = c.requires.sits;
       parts = λ n has. (n, ap (λ (l : List J). n + length l) gives.0, has);
       balanced = λ x. x;
+      calls = λ none calls was. was;
+      uncalled = λ none. subst (λ (l : List J). AllUncalled c.args.desk.now l) (sym gives.0) (all_uncalled c.args.desk.now c.args.jobs.items none);
       runs = λ none. none;
       rest = subst (λ (l : List J). AllReady c.args.desk.now l) (sym gives.0) (all_ready c.args.desk.now c.args.jobs.items c.requires.jobs);
     }
@@ -38,6 +41,8 @@ loop-job-preserved g c =
       sits = e.sits;
       parts = λ n has. (let p = i.parts n has in (p.0 + 1, parts_more p.0 n (length c.args.jobs.items) _ _ p.1 short, e.parts p.0 1 p.2 d.0.one));
       balanced = λ x. e.balanced (i.balanced x) d.0.balanced;
+      calls = λ none calls was. named_same c.args.desk.now c.loop-job.seats _ c.join_seats.new.seats calls e.joined (i.calls none calls was) (subst (λ (l : List J). AllUncalled c.args.desk.now l) steps (i.uncalled none)).0;
+      uncalled = λ none. (subst (λ (l : List J). AllUncalled c.args.desk.now l) steps (i.uncalled none)).1;
       runs = λ none. e.runs (i.runs none) d.0.runs;
       rest = d.1;
     }
@@ -59,3 +64,6 @@ returns-clause-balanced g c x = c.loop-job.invariant.balanced x
 
 pub returns-clause-runs : goal.returns-clause-runs
 returns-clause-runs g c none = c.loop-job.invariant.runs none
+
+pub returns-clause-calls : goal.returns-clause-calls
+returns-clause-calls g c none calls was = c.loop-job.invariant.calls none calls was

@@ -1,4 +1,5 @@
 use Rattle.std.proofs.Common.{refl, sym, subst}
+use Rattle.codec_desk.specs.ClockLaws.{timed_rest}
 use Rattle.desk_threads.specs.declared.jobs.Role.{Role}
 use Rattle.desk_threads.specs.AccountLaws.{balanced_after}
 use Rattle.desk_threads.specs.Jobs.{Found}
@@ -28,7 +29,9 @@ returns-in-Worker-clause-done g c =
     record {
       role = refl {a = c.args.job.now.role};
       settled = e.settled;
+      calls = e.calls;
       found = subst (λ (r : Role). Found c.args.desk.now r c.args.job.now.seats c.item_loop.new.seats) (sym c.in-Worker.is) e.looked;
+      timed = e.timed;
     }
 
 pub returns-in-Turner-clause-ready : goal.returns-in-Turner-clause-ready
@@ -48,5 +51,7 @@ returns-in-Turner-clause-done g c =
     record {
       role = refl {a = c.args.job.now.role};
       settled = e.settled;
+      calls = e.calls;
       found = subst (λ (r : Role). Found c.args.desk.now r c.args.job.now.seats c.turn_loop.new.seats) (sym c.in-Turner.is) e.looked;
+      timed = timed_rest c.args.desk.now c.args.job.now.seats c.turn_loop.new.seats (g.K.Clock.told c.args.job.now.clock) e.ends;
     }

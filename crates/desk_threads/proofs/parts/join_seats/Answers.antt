@@ -10,6 +10,7 @@ use Rattle.codec_desk.specs.Desks.{SitsAt}
 use Rattle.desk_threads.specs.Parts.{IsJoin}
 use Rattle.desk_threads.specs.PartLaws.{sit_joined, parts_joined}
 use Rattle.desk_threads.specs.AccountLaws.{balanced_joined}
+use Rattle.desk_threads.specs.CallLaws.{named_joined}
 use Rattle.desk_threads.specs.RunLaws.{each_none_joined}
 use Rattle.desk_threads.proofs.Lists.{LastJoined, join_start}
 use Rattle.desk_threads.proofs.SeatSteps.{Join, join_few, join_at, join_step, no_seats}
@@ -104,3 +105,6 @@ returns-clause-balanced g c x y = balanced_joined c.args.desk.now c.args.seats.n
 
 pub returns-clause-runs : goal.returns-clause-runs
 returns-clause-runs g c none other = each_none_joined c.args.desk.now.codecs.items c.args.seats.now.codecs.items c.args.other.codecs.items _ (returns-clause-joined g c).codecs none other
+
+pub returns-clause-calls : goal.returns-clause-calls
+returns-clause-calls g c xs ys x y = named_joined c.args.desk.now c.args.seats.now c.args.other _ xs ys (returns-clause-joined g c) x y

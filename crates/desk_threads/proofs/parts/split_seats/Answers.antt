@@ -13,6 +13,7 @@ use Rattle.codec_desk.specs.Desks.{SitsAt}
 use Rattle.codec_desk.specs.EachLaws.{pairs_length}
 use Rattle.desk_threads.specs.PartLaws.{has_get, sit_left, sit_new, parts_left, parts_new}
 use Rattle.desk_threads.specs.AccountLaws.{balanced_left, balanced_new}
+use Rattle.desk_threads.specs.CallLaws.{named_left, named_new}
 use Rattle.desk_threads.specs.RunLaws.{each_none_left, each_none_new}
 use Rattle.desk_threads.proofs.Lists.{FirstSplit, split_length, split_all}
 use Rattle.desk_threads.proofs.SeatSteps.{Split, split_at, split_step}
@@ -118,3 +119,9 @@ returns-clause-runs g c none = each_none_left c.args.desk.now.codecs.items c.arg
 
 pub returns-clause-new_runs : goal.returns-clause-new_runs
 returns-clause-new_runs g c = each_none_new c.args.desk.now.codecs.items c.args.seats.now.codecs.items _ _ (returns-clause-split g c).codecs
+
+pub returns-clause-calls : goal.returns-clause-calls
+returns-clause-calls g c calls was = named_left c.args.desk.now c.args.seats.now _ _ calls (returns-clause-split g c) was
+
+pub returns-clause-new_calls : goal.returns-clause-new_calls
+returns-clause-new_calls g c = named_new c.args.desk.now c.args.seats.now _ _ (returns-clause-split g c)

@@ -1,9 +1,11 @@
+use Rattle.std.proofs.Common.{[]}
 use Rattle.codec_desk.specs.DeskLaws.{settled_none, settled_then}
+use Rattle.codec_desk.specs.NamedLaws.{calls_none, calls_then}
 use Rattle.desk_threads.proofs.Resting.{items_rested, tasks_rested}
 use Rattle.desk_threads.proofs.settling.settle_desk.Goals as goal
 
 pub loop-init : goal.loop-init
-loop-init g c = (tt, tt, c.requires, settled_none c.args.desk.now c.args.seats.now c.requires, λ none. none)
+loop-init g c = (tt, tt, c.requires, settled_none c.args.desk.now c.args.seats.now c.requires, λ none. none, calls_none c.args.desk.now c.args.seats.now)
 
 pub item_round-worked-requires-after_bounds : goal.item_round-worked-requires-after_bounds
 item_round-worked-requires-after_bounds g c κs within = c.loop.invariant.2
@@ -21,6 +23,8 @@ loop-preserved g c =
       settled_then desk a c.item_round-worked.new.seats c.turn_round-turned.new.seats
           (settled_then desk a c.loop.seats c.item_round-worked.new.seats c.loop.invariant.3 c.item_round-worked.ensures.settled) c.turn_round-turned.ensures.settled,
       λ none. c.turn_round-turned.ensures.runs (c.item_round-worked.ensures.runs (c.loop.invariant.4 none)),
+      calls_then desk a c.item_round-worked.new.seats c.turn_round-turned.new.seats [] []
+          (calls_then desk a c.loop.seats c.item_round-worked.new.seats [] [] c.loop.invariant.5 c.item_round-worked.ensures.calls) c.turn_round-turned.ensures.calls,
     )
 
 pub returns-then-not-either-clause-sits : goal.returns-then-not-either-clause-sits
@@ -54,3 +58,10 @@ returns-then-not-either-clause-rested g c =
 
 pub returns-then-not-either-clause-runs : goal.returns-then-not-either-clause-runs
 returns-then-not-either-clause-runs g c none = c.turn_round-turned.ensures.runs (c.item_round-worked.ensures.runs (c.loop.invariant.4 none))
+
+pub returns-then-not-either-clause-calls : goal.returns-then-not-either-clause-calls
+returns-then-not-either-clause-calls g c =
+    let desk = c.args.desk.now in
+    let a = c.args.seats.now in
+    calls_then desk a c.item_round-worked.new.seats c.turn_round-turned.new.seats [] []
+    (calls_then desk a c.loop.seats c.item_round-worked.new.seats [] [] c.loop.invariant.5 c.item_round-worked.ensures.calls) c.turn_round-turned.ensures.calls
