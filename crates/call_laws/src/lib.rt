@@ -1,0 +1,6 @@
+//! Laws of the calls of all callers of a run, against the codecs' histories.
+#![tactic(auto)]
+
+mod laws;
+
+pub use laws::calls_stand_once;

@@ -1,0 +1,8 @@
+mod Returns
+mod Latest
+mod Dues
+mod Trying
+mod Together
+mod Lending
+mod Fitting
+mod Ordering

@@ -1,0 +1,7 @@
+pub mod Tries
+pub mod Told
+pub mod Paid
+pub mod PoolPaid
+pub mod Quiet
+pub mod Fits
+pub mod Order

@@ -1,0 +1,60 @@
+// Laws of what all threads of a run made.
+ghost use Rattle.std.specs.Prelude.{ℕ, ◌≡◌, ◌<◌, List, length};
+ghost use Rattle.codec_accounts.specs.Codec.{state_after};
+ghost use Rattle.codec_accounts.specs.Owed.{at};
+ghost use Rattle.codec_logs.specs.Logs.{IsLog};
+ghost use Rattle.codec_logs.specs.declared.event.Event.{Event};
+ghost use Rattle.codec_model.specs.declared.entry.Opening.{Opening};
+ghost use Rattle.coder_api.specs.declared.slot.SlotEntry.{SlotEntry};
+ghost use Rattle.run_laws.specs.Fits.{AreAtRest, FitsAsTried, ThreadsMade};
+ghost use Rattle.run_laws.specs.Order.{MediaOrderIsKept, SlotOrderIsKept};
+ghost use Rattle.run_laws.specs.Paid.{RegistryIsPaid, histories_of};
+ghost use Rattle.run_laws.specs.PoolPaid.{CodecsArePaid, PoolIsPaid};
+ghost use Rattle.run_laws.specs.Quiet.{IsAtRest};
+ghost use Rattle.run_laws.specs.Tries.{BoxesAreTried};
+ghost use Rattle.run_model.specs.Recorded.{Recorded, opening_at};
+ghost use Rattle.script_types.specs.declared.script.ScriptData.{ScriptData};
+ghost use Rattle.wc_base.specs.Views.{Log};
+ghost use Rattle.wc_chunk.specs.declared.chunk.Chunk.{Chunk};
+ghost use Rattle.wc_config.specs.declared.codec.CoderId.{CoderId};
+ghost use Rattle.wc_pool.specs.declared.entry.PoolEntry.{PoolEntry};
+
+/// A law on a registry's history that has what the codecs' logs call for, where the ends of items tell how their acquires went.
+/// Each box that went out came back by the entry that let it go. Each start acquired what it may try, and its item's end says so.
+pub fn boxes_are_tried()
+    ensures { (made : List CoderId) (opening : ℕ → Opening) (logs : List (Log Event))
+        (slots : List SlotEntry)
+        → RegistryIsPaid made opening logs slots
+        → BoxesAreTried made opening (histories_of logs) slots }
+{}
+
+/// A law: where a pool's history has, by each entry of a codec, what that codec's log calls for by it, it has what the codec's
+/// history calls for.
+pub fn codecs_are_paid()
+    ensures { (opening : ℕ → Opening) (logs : List (Log Event)) (pool : List PoolEntry)
+        → PoolIsPaid opening logs pool → CodecsArePaid opening logs pool }
+{}
+
+/// A law on a thread whose seats made, by each entry of a codec, what its log calls for by that entry, in order: in the registry, or in
+/// the pool. This stays so as the thread makes more, and where one thread's seats take in another's.
+pub fn order_is_kept()
+    ensures slots { SlotOrderIsKept }
+    ensures media { MediaOrderIsKept }
+{}
+
+/// A law: codecs that are at rest by their logs are so by their histories.
+pub fn codecs_rest()
+    ensures { (script : ScriptData) (logs : List (Log Event)) (run : Recorded)
+        → run.codecs ≡ histories_of logs
+        → ((k : ℕ) → k < length logs → IsLog k (opening_at script k) (at k logs))
+        → AreAtRest script logs
+        → (k : ℕ) → k < length run.codecs
+        → IsAtRest (state_after (opening_at script k) (at k run.codecs)).control }
+{}
+
+/// A law: what the threads of a run made fits the script.
+pub fn threads_fit()
+    ensures { (script : ScriptData) (media : List (List Chunk)) (made : List CoderId)
+        (logs : List (Log Event)) (run : Recorded)
+        → ThreadsMade script media made logs run → FitsAsTried script media made run }
+{}

@@ -1,0 +1,6 @@
+//! Laws of what the threads of a run made together: how it fits the script.
+#![tactic(auto)]
+
+mod laws;
+
+pub use laws::{boxes_are_tried, codecs_are_paid, codecs_rest, order_is_kept, threads_fit};
