@@ -1,12 +1,12 @@
 -- What a thread's seats at a desk are, and what they settle.
-use Rattle.std.specs.Prelude.{ℕ, ◌≡◌, List, ◌++◌, map, Option, false}
+use Rattle.std.specs.Prelude.{ℕ, ◌≡◌, List, ◌++◌, map, Option}
+use Rattle.std.specs.List.{flat_map}
 use Rattle.atomic_table.specs.Seated.{TableId}
 use Rattle.atomic_table.specs.declared.shared.Seat.{Seat}
 use Rattle.wc_base.specs.Views.{Log}
 use Rattle.wc_base.specs.declared.seat.View.{View}
 use Rattle.wc_base.specs.declared.who.By.TheVariants as by
 use Rattle.wc_pool.specs.declared.entry.{PoolEntry.PoolEntry, PoolOp.PoolOp}
-use Rattle.wc_pool.specs.declared.entry.PoolOp.TheVariants as op
 use Rattle.coder_api.specs.declared.slot.SlotEntry.{SlotEntry}
 use Rattle.codec_accounts.specs.Bags.{SameBag}
 use Rattle.seat_lock.specs.Seats.{IsIdleAt}
@@ -14,8 +14,9 @@ use Rattle.seat_lock.specs.Since.{MadeSince}
 use Rattle.codec_logs.specs.declared.event.Event.{Event}
 use Rattle.shared_pool.specs.Steps as pools
 use Rattle.shared_slots.specs.Steps as registries
-use Rattle.shared_codec.specs.Dues.{slot_dues, media_dues}
+use Rattle.shared_codec.specs.Dues.{slot_dues, media_dues, OwedSince}
 use Rattle.shared_codec.specs.Keeps.{Keeps}
+use Rattle.shared_codec.specs.Order.{told_op, slot_at, asked_at, done_at}
 use Rattle.shared_codec.specs.Shared.{Shared}
 use Rattle.shared_codec.specs.Sums.{dues_of}
 use Rattle.codec_desk.specs.declared.desk.Desk.{Desk}
@@ -23,11 +24,6 @@ use Rattle.codec_desk.specs.declared.desk.Seats.{Seats}
 use Rattle.codec_desk.specs.Each.{Pairs, Each, total_of}
 
 -- an entry of a pool, without whether an end was the last of its resource
-abbrev pub told_op : PoolOp → PoolOp
-told_op (op.Make r f) = op.Make r f
-told_op (op.Clone r f) = op.Clone r f
-told_op (op.End r f last) = op.End r f false
-
 abbrev pub told : PoolEntry → PoolEntry
 told e = record { by = e.by; op = told_op e.op }
 
@@ -50,6 +46,16 @@ module _ {S : Type 0} where
     pub more : Log Event
     pub longer : b.me.0.log ≡ a.me.0.log ++ more
 
+  -- What the entries call for that the codec's seat made since is what was made meanwhile by each of them, in order: in the registry,
+  -- and in the pool.
+  pub record InOrderSince (entries : List SlotEntry) (does : List PoolEntry) (s : Shared) (a b : Seat (Option S) (View Event)) : Type 0 where
+    pub slots : List SlotEntry
+    pub asked : OwedSince slot_dues s.codec s.opening a.me.0 b.me.0 slots
+    pub slot_order : (place : ℕ) → flat_map (slot_at s.codec place) slots ≡ flat_map (slot_at s.codec place) entries
+    pub media : List (ℕ × PoolOp)
+    pub lent : OwedSince media_dues s.codec s.opening a.me.0 b.me.0 media
+    pub media_order : (place : ℕ) → flat_map (asked_at s.codec place) media ≡ flat_map (done_at s.codec place) does
+
   -- What all entries of these seats call for in the registry, and in the pool: codec after codec.
   abbrev pub slot_calls : List Shared → List (Seat (Option S) (View Event)) → List SlotEntry
   slot_calls codecs seats = total_of (λ s a. dues_of slot_dues s.codec s.opening a.me.0) codecs seats
@@ -66,7 +72,8 @@ module _ {C : Type 0} where
     pub slots : registries.IsFree desk.slots.id seats.slots
 
   -- What one thread did with its seats at a desk. Each stays the same seat, and has seen more. What all entries that it made at
-  -- the codecs call for in the registry, and in the pool, is what it made there: what is called for grew by that, in any order.
+  -- the codecs call for in the registry, and in the pool, is what it made there: what is called for grew by that, in any order, and
+  -- by each entry of a codec in that entry's order.
   pub record Settled (desk : Desk C) (a b : Seats C) : Type 0 where
     pub seats : Each SeesMore desk.codecs.items a.codecs.items b.codecs.items
     pub slot_seat : Keeps desk.slots.id a.slots b.slots
@@ -77,3 +84,4 @@ module _ {C : Type 0} where
     pub does : List PoolEntry
     pub pool : MadeSince a.pool.me.0 b.pool.me.0 does
     pub lends : SameBag (pool_calls desk.codecs.items b.codecs.items) (pool_calls desk.codecs.items a.codecs.items ++ map told does)
+    pub order : Each (InOrderSince entries does) desk.codecs.items a.codecs.items b.codecs.items

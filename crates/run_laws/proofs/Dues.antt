@@ -29,6 +29,7 @@ use Rattle.codec_logs.specs.Logs.{Track, entry_of, act_in, acquires_of, box_by, 
 use Rattle.run_laws.specs.Tries.{MayTry, IsRefusalOf}
 use Rattle.run_laws.specs.Told.{Started, started_by, ops_of, EntryIsTold, EndsAreTold}
 use Rattle.shared_codec.specs.Dues.{give_by, slot_dues}
+use Rattle.shared_codec.specs.OrderLaws.{place_by}
 use Rattle.shared_codec.specs.Sums.{all_dues}
 use Rattle.run_laws.proofs.Latest.{latest, latest_more, ask_after}
 use Rattle.run_laws.proofs.Returns.{OutIsAsked, OutsAreAsked, due_return, box_weight, entry_weight}
@@ -58,21 +59,6 @@ pub record At (acts : List Act) (x : Track) (log : Log Event) : Type 0 where
   pub since : (p : ℕ) → x.holds.since ≡ Some p → IsLatest sofar p
 
 -- ---- one entry more
-
-pub place_by : {B : Type 0} (a : Act) (b : Option B) (h : Holds B) → (holds_by a b h).place ≡ suc h.place
-place_by (Asks id) b h = refl
-place_by Begins b h = refl
-place_by Ends b h = by h.old
-  where
-    by : (old : Bool) → (holds_after_end old b h).place ≡ suc h.place
-    by true = refl
-    by false = refl
-place_by Removes b h = by h.runs
-  where
-    by : (runs : Bool) → (holds_removed runs h).place ≡ suc h.place
-    by true = refl
-    by false = refl
-place_by Other b h = refl
 
 some_is : (a b : ℕ) → Some a ≡ Some b → a ≡ b
 some_is a b h = cc

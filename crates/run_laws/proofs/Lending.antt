@@ -23,14 +23,12 @@ use Rattle.codec_logs.specs.LogLaws.{legal_log}
 use Rattle.media_accounts.specs.Accounts.{called_for, called_at, lent_at}
 use Rattle.shared_codec.specs.Dues.{clones_at, ends_at, media_dues}
 use Rattle.shared_codec.specs.Sums.{all_dues}
-use Rattle.run_laws.specs.PoolPaid.{ops_at, media_of, PoolIsPaid, CodecsArePaid}
-use Rattle.run_laws.proofs.Dues.{place_by}
+use Rattle.shared_codec.specs.Order.{ops_at}
+use Rattle.shared_codec.specs.OrderLaws.{place_by, ops_append, event_other}
+use Rattle.run_laws.specs.PoolPaid.{media_of, PoolIsPaid, CodecsArePaid}
 use Rattle.run_laws.proofs.Together.{history_here}
 
 -- ---- one entry
-
-ops_append : (p : ℕ) (a b : List (ℕ × PoolOp)) → ops_at p (a ++ b) ≡ ops_at p a ++ ops_at p b
-ops_append p a b = flat_map-append (λ (d : ℕ × PoolOp). cond (d.0 == p) (d.1 ∷ []) []) a b
 
 clones_here : (p : ℕ) (ps : List Pair) → ops_at p (clones_at p ps) ≡ map (λ q. op.Clone q.resource q.reference) ps
 clones_here p [] = refl
@@ -40,27 +38,12 @@ ends_here : (p : ℕ) (ps : List Pair) → ops_at p (ends_at p ps) ≡ map (λ q
 ends_here p [] = refl
 ends_here p (q ∷ qs) = ap (λ (b : Bool). cond b (op.End q.resource q.reference false ∷ []) [] ++ ops_at p (ends_at p qs)) (eq-eqb p p refl) ∙ ap (λ (l : List PoolOp). op.End q.resource q.reference false ∷ l) (ends_here p qs)
 
-clones_other : (n p : ℕ) (ps : List Pair) → n ≢ p → ops_at p (clones_at n ps) ≡ []
-clones_other n p [] other = refl
-clones_other n p (q ∷ qs) other = ap (λ (b : Bool). cond b (op.Clone q.resource q.reference ∷ []) [] ++ ops_at p (clones_at n qs)) (ne_eqb n p other) ∙ clones_other n p qs other
-
-ends_other : (n p : ℕ) (ps : List Pair) → n ≢ p → ops_at p (ends_at n ps) ≡ []
-ends_other n p [] other = refl
-ends_other n p (q ∷ qs) other = ap (λ (b : Bool). cond b (op.End q.resource q.reference false ∷ []) [] ++ ops_at p (ends_at n qs)) (ne_eqb n p other) ∙ ends_other n p qs other
-
 event_here : (k : ℕ) (e : Event) (x : Track) → ops_at x.holds.place (media_dues k e x) ≡ called_for (entry_of e) x.state
 event_here k e x =
     let p = x.holds.place in
     let a = clones_here p (adds_held (entry_of e)) in
     let b = ends_here p (lets_go (entry_of e) x.state) in
     ops_append p (clones_at p (adds_held (entry_of e))) (ends_at p (lets_go (entry_of e) x.state)) ∙ (λ i. a i ++ b i)
-
-pub event_other : (k p : ℕ) (e : Event) (x : Track) → x.holds.place ≢ p → ops_at p (media_dues k e x) ≡ []
-event_other k p e x other =
-    let n = x.holds.place in
-    let a = clones_other n p (adds_held (entry_of e)) other in
-    let b = ends_other n p (lets_go (entry_of e) x.state) other in
-    ops_append p (clones_at n (adds_held (entry_of e))) (ends_at n (lets_go (entry_of e) x.state)) ∙ (λ i. a i ++ b i)
 
 -- ---- a log
 

@@ -5,4 +5,3 @@ mod Trying
 mod Together
 mod Lending
 mod Fitting
-mod Ordering

@@ -27,6 +27,7 @@ use Rattle.codec_logs.specs.Logs.{Track, entry_of, history_of, act_in, acquires_
 use Rattle.run_laws.specs.Tries.{try_of, tries_by, MayTry, IsGranted, EndSays, EndsAsTried}
 use Rattle.run_laws.specs.Told.{Started, started_by, ops_of, EntryIsTold, EndIsTold, EndsAreTold}
 use Rattle.shared_codec.specs.Dues.{give_by, slot_dues}
+use Rattle.shared_codec.specs.OrderLaws.{other_place}
 use Rattle.shared_codec.specs.Sums.{all_dues}
 use Rattle.run_laws.proofs.Dues.{AreAcquires, event_tells}
 
@@ -35,13 +36,6 @@ use Rattle.run_laws.proofs.Dues.{AreAcquires, event_tells}
 pub itself : (c : By) → is_cause c c ≡ true
 itself (by.Caller who) = rw (eq-eqb who.caller who.caller refl, eq-eqb who.step who.step refl) refl
 itself (by.Codec k p) = rw (eq-eqb k k refl, eq-eqb p p refl) refl
-
-and_false : (a : Bool) → (a && false) ≡ false
-and_false true = refl
-and_false false = refl
-
-pub other_place : (k p q : ℕ) → p ≢ q → is_cause (by.Codec k p) (by.Codec k q) ≡ false
-other_place k p q other = ap (λ (b : Bool). (k == k) && b) (ne_eqb p q other) ∙ and_false (k == k)
 
 pub tries_append : (c : By) (a b : List SlotEntry) → tries_by c (a ++ b) ≡ tries_by c a ++ tries_by c b
 tries_append c a b = flat_map-append (λ (e : SlotEntry). cond (is_cause c e.by) (try_of e.op) []) a b

@@ -4,4 +4,3 @@ pub mod Paid
 pub mod PoolPaid
 pub mod Quiet
 pub mod Fits
-pub mod Order

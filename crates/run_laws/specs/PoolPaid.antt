@@ -10,16 +10,13 @@ use Rattle.codec_logs.specs.declared.event.Event.{Event}
 use Rattle.codec_logs.specs.Logs.{opening_track, IsLog}
 use Rattle.media_accounts.specs.Accounts.{ops_of_entry, lent_at}
 use Rattle.shared_codec.specs.Dues.{media_dues}
+use Rattle.shared_codec.specs.Order.{ops_at}
 use Rattle.shared_codec.specs.Sums.{all_dues}
 use Rattle.run_laws.specs.Paid.{histories_of}
 
 -- what the log of a codec calls for in the pool, each with the place of its entry
 abbrev pub media_of : (ℕ → Opening) → ℕ → Log Event → List (ℕ × PoolOp)
 media_of opening k log = all_dues media_dues k (opening_track (opening k)) log
-
--- what is called for by the entry at a place, in order
-abbrev pub ops_at : ℕ → List (ℕ × PoolOp) → List PoolOp
-ops_at place dues = flat_map (λ d. cond (d.0 == place) (d.1 ∷ []) []) dues
 
 -- What a pool's history has by each entry of a codec is what that one's log calls for by it, in order.
 pub record PoolIsPaid (opening : ℕ → Opening) (logs : List (Log Event)) (pool : List PoolEntry) : Type 0 where

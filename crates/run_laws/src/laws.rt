@@ -7,7 +7,6 @@ ghost use Rattle.codec_logs.specs.declared.event.Event.{Event};
 ghost use Rattle.codec_model.specs.declared.entry.Opening.{Opening};
 ghost use Rattle.coder_api.specs.declared.slot.SlotEntry.{SlotEntry};
 ghost use Rattle.run_laws.specs.Fits.{AreAtRest, FitsAsTried, ThreadsMade};
-ghost use Rattle.run_laws.specs.Order.{MediaOrderIsKept, SlotOrderIsKept};
 ghost use Rattle.run_laws.specs.Paid.{RegistryIsPaid, histories_of};
 ghost use Rattle.run_laws.specs.PoolPaid.{CodecsArePaid, PoolIsPaid};
 ghost use Rattle.run_laws.specs.Quiet.{IsAtRest};
@@ -33,13 +32,6 @@ pub fn boxes_are_tried()
 pub fn codecs_are_paid()
     ensures { (opening : ℕ → Opening) (logs : List (Log Event)) (pool : List PoolEntry)
         → PoolIsPaid opening logs pool → CodecsArePaid opening logs pool }
-{}
-
-/// A law on a thread whose seats made, by each entry of a codec, what its log calls for by that entry, in order: in the registry, or in
-/// the pool. This stays so as the thread makes more, and where one thread's seats take in another's.
-pub fn order_is_kept()
-    ensures slots { SlotOrderIsKept }
-    ensures media { MediaOrderIsKept }
 {}
 
 /// A law: codecs that are at rest by their logs are so by their histories.

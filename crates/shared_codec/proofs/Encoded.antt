@@ -83,6 +83,7 @@ module _ {S : Type 0} (s : Shared) where
         calls = clones_at r.place (adds_held e);
         owes = made_owes s e [] [] (clones_at r.place (adds_held e)) a c m none clones;
         made = made_none u;
+        own = tt;
         does = done.0;
         pool = done.1;
         are = done.2;

@@ -3,6 +3,7 @@ pub mod Encoded
 pub mod Ending
 pub mod Gave
 pub mod Jobs
+pub mod Ordering
 pub mod Owing
 pub mod Stands
 pub mod Taken

@@ -32,7 +32,7 @@ use Rattle.wc_base.specs.declared.error.DomError.{DomError}
 use Rattle.codec_media.specs.Holding.{EndedValue, ReplyValue, RemovedValue, TurnedValue, pair_of}
 use Rattle.shared_codec.specs.Shared.{Shared, MayEndAt, HasJobAt}
 use Rattle.shared_codec.specs.Owes.{CallOwes, TurnOwes, ReclaimOwes, StartOwes, DoneOwes, owes_then}
-use Rattle.shared_codec.specs.Settles.{Settles, settles_rest, settles_back}
+use Rattle.shared_codec.specs.Settles.{Settles, AreOfCodec, of_codec_both, gives_of_codec, given_of_codec, settles_rest, settles_back}
 use Rattle.shared_codec.specs.Jobs.{StartedIn, DoneIn}
 use Rattle.shared_codec.specs.Workers.{AreBy, AcquiredFor, AcquiredThen, EndsIf, EndsAll, WorkedIn}
 use Rattle.shared_codec.proofs.Worked.{out_same}
@@ -46,9 +46,9 @@ asked_of_by k place [] x waits since h = tt
 asked_of_by k place (a ∷ rest) x waits since h = ((place, waits, since, h.0), asked_of_by k place rest x waits since h.1)
 
 -- a job that lacks a box, with what was acquired for it
-pub may_acquired : (r : Registry) (k : ℕ) (o : Opening) (slots : TableId) (n : ℕ) (log : Log Event) (job : JobValue) (d : DoneValue) (es : List SlotEntry) (v w : View SlotEntry) → r.id ≡ slots → HasJobAt k o slots n log job → is_some (missing_id job) ≡ true → ((s : State) → IsJobOf s job → IsEndOf s d) → AcquiredFor r k job.place d es v w → MayEndAt k o slots n log d es
-may_acquired r k o slots n log job d es v w same has lacks end a =
-    let asks = has.asks lacks in
+pub may_acquired : (r : Registry) (k : ℕ) (o : Opening) (slots : TableId) (n : ℕ) (log : Log Event) (job : JobValue) (d : DoneValue) (es : List SlotEntry) (v w : View SlotEntry) → r.id ≡ slots → HasJobAt k o slots n log job → (id : CoderId) → missing_id job ≡ Some id → ((s : State) → IsJobOf s job → IsEndOf s d) → AcquiredFor r k id job.place d es v w → MayEndAt k o slots n log d es
+may_acquired r k o slots n log job d es v w same has id lacks end a =
+    let asks = has.asks (ap is_some lacks) in
     let x : Holds Box = (track o log).holds in
     record {
       runner = has.runner;
@@ -62,11 +62,12 @@ may_acquired r k o slots n log job d es v w same has lacks end a =
     }
 
 -- a box went out, and the job was done with it
-pub acquired_for : (r : Registry) (k place : ℕ) (id : CoderId) (lent : Lent) (d : DoneValue) (es : List SlotEntry) (v w : View SlotEntry) → es ≡ went_out (by.Codec k place) id lent.number ∷ [] → AcquiredAfter r.made (by.Codec k place) id lent v w → IsOut r.id lent → stopped_box d.coder ≡ stopped_box (Some lent) → AcquiredFor r k place d es v w
-acquired_for r k place id lent d es v w is a out same = subst (λ (l : List SlotEntry). AcquiredFor r k place d l v w) (sym is) (record {
+pub acquired_for : (r : Registry) (k place : ℕ) (id : CoderId) (lent : Lent) (d : DoneValue) (es : List SlotEntry) (v w : View SlotEntry) → es ≡ went_out (by.Codec k place) id lent.number ∷ [] → AcquiredAfter r.made (by.Codec k place) id lent v w → IsOut r.id lent → stopped_box d.coder ≡ stopped_box (Some lent) → AcquiredFor r k id place d es v w
+acquired_for r k place id lent d es v w is a out same = subst (λ (l : List SlotEntry). AcquiredFor r k id place d l v w) (sym is) (record {
   since = a.entry.since;
   box = boxed d.coder same;
   are_by = (refl, tt);
+  ids = (refl, tt);
   tries = (tt, tt);
   out = out_same r.id (Some lent) d.coder same out;
   none = false;
@@ -86,12 +87,13 @@ acquired_for r k place id lent d es v w is a out same = subst (λ (l : List Slot
         }
 
 -- none was free
-pub refused_for : (r : Registry) (k place : ℕ) (id : CoderId) (n out all : ℕ) (job : JobValue) (d : DoneValue) (es : List SlotEntry) (v w : View SlotEntry) → es ≡ refused (by.Codec k place) id out all ∷ [] → RefusedAfter r.made (by.Codec k place) id n out all v w → job.coder ≡ None → d ≡ done_with (ended.NoSlot n) job → AcquiredFor r k place d es v w
+pub refused_for : (r : Registry) (k place : ℕ) (id : CoderId) (n out all : ℕ) (job : JobValue) (d : DoneValue) (es : List SlotEntry) (v w : View SlotEntry) → es ≡ refused (by.Codec k place) id out all ∷ [] → RefusedAfter r.made (by.Codec k place) id n out all v w → job.coder ≡ None → d ≡ done_with (ended.NoSlot n) job → AcquiredFor r k id place d es v w
 refused_for r k place id n out all job d es v w is a none made =
-    let told : AcquiredFor r k place (done_with (ended.NoSlot n) (with_box None job)) (refused (by.Codec k place) id out all ∷ []) v w = record {
+    let told : AcquiredFor r k id place (done_with (ended.NoSlot n) (with_box None job)) (refused (by.Codec k place) id out all ∷ []) v w = record {
       since = a.entry.since;
       box = refl;
       are_by = (refl, tt);
+      ids = (refl, tt);
       tries = (tt, tt);
       out = tt;
       none = true;
@@ -99,15 +101,16 @@ refused_for r k place id n out all job d es v w is a none made =
       says = record { id = id; out = out; all = all; told = refl; after = a };
     } in
     let same : done_with (ended.NoSlot n) (with_box None job) ≡ d = (λ i. done_with (ended.NoSlot n) (with_box (sym none i) job)) ∙ sym made in
-    subst (λ (l : List SlotEntry). AcquiredFor r k place d l v w) (sym is) (subst (λ (z : DoneValue). AcquiredFor r k place z (refused (by.Codec k place) id out all ∷ []) v w) same told)
+    subst (λ (l : List SlotEntry). AcquiredFor r k id place d l v w) (sym is) (subst (λ (z : DoneValue). AcquiredFor r k id place z (refused (by.Codec k place) id out all ∷ []) v w) same told)
 
 -- there was no memory
-pub wanting_for : (r : Registry) (k place : ℕ) (job : JobValue) (d : DoneValue) (es : List SlotEntry) (v w : View SlotEntry) → es ≡ [] → MadeSince v w [] → job.coder ≡ None → d ≡ done_with ended.NoMemory job → AcquiredFor r k place d es v w
-wanting_for r k place job d es v w is since none made =
-    let told : AcquiredFor r k place (done_with ended.NoMemory (with_box None job)) [] v w = record {
+pub wanting_for : (r : Registry) (k place : ℕ) (id : CoderId) (job : JobValue) (d : DoneValue) (es : List SlotEntry) (v w : View SlotEntry) → es ≡ [] → MadeSince v w [] → job.coder ≡ None → d ≡ done_with ended.NoMemory job → AcquiredFor r k id place d es v w
+wanting_for r k place id job d es v w is since none made =
+    let told : AcquiredFor r k id place (done_with ended.NoMemory (with_box None job)) [] v w = record {
       since = since;
       box = refl;
       are_by = tt;
+      ids = tt;
       tries = tt;
       out = tt;
       none = true;
@@ -115,7 +118,7 @@ wanting_for r k place job d es v w is since none made =
       says = refl;
     } in
     let same : done_with ended.NoMemory (with_box None job) ≡ d = (λ i. done_with ended.NoMemory (with_box (sym none i) job)) ∙ sym made in
-    subst (λ (l : List SlotEntry). AcquiredFor r k place d l v w) (sym is) (subst (λ (z : DoneValue). AcquiredFor r k place z [] v w) same told)
+    subst (λ (l : List SlotEntry). AcquiredFor r k id place d l v w) (sym is) (subst (λ (z : DoneValue). AcquiredFor r k id place z [] v w) same told)
 
 pub by_place : (k place : ℕ) (b : By) → b ≡ by.Codec k place → IsBy b (Some place)
 by_place k place b is = subst (λ (x : By). IsBy x (Some place)) (sym is) refl
@@ -143,10 +146,11 @@ pub given_is : (k j : ℕ) (m : Option CoderId) (id : CoderId) (at place : ℕ) 
 given_is k j m id at place coder old same lacks is taken =
     (λ i. gives_of (same i) (is i) old) ∙ (gives_taken j place coder old taken ∙ (λ i. given_if j (sym lacks i) place coder))
 
-pub acquired_then : (r : Registry) (k j : ℕ) (old new : JobValue) (gives : List SlotEntry) (given : List SlotEntry) (d : DoneValue) (es : List SlotEntry) (u v w : View SlotEntry) → k ≡ j → new ≡ with_box None old → gives ≡ given → MadeSince u v gives → AcquiredFor r k new.place d es v w → AcquiredThen r j old.place given d es u w
-acquired_then r k j old new gives given d es u v w same left is before a =
-    let at : AcquiredFor r k old.place d es v w = subst (λ (z : JobValue). AcquiredFor r k z.place d es v w) left a in
-    (v, subst (λ (l : List SlotEntry). MadeSince u v l) is before, subst (λ (n : ℕ). AcquiredFor r n old.place d es v w) same at)
+pub acquired_then : (r : Registry) (k j : ℕ) (id other : CoderId) (old new : JobValue) (gives : List SlotEntry) (given : List SlotEntry) (d : DoneValue) (es : List SlotEntry) (u v w : View SlotEntry) → k ≡ j → Some id ≡ Some other → new ≡ with_box None old → gives ≡ given → MadeSince u v gives → AcquiredFor r k id new.place d es v w → AcquiredThen r j other old.place given d es u w
+acquired_then r k j id other old new gives given d es u v w same ids left is before a =
+    let one : id ≡ other = cc in
+    let at : AcquiredFor r k other old.place d es v w = subst (λ (z : JobValue). AcquiredFor r k other z.place d es v w) left (subst (λ (i : CoderId). AcquiredFor r k i new.place d es v w) one a) in
+    (v, subst (λ (l : List SlotEntry). MadeSince u v l) is before, subst (λ (n : ℕ). AcquiredFor r n other old.place d es v w) same at)
 
 pub given_then : (u v w : View SlotEntry) (gives given es : List SlotEntry) → gives ≡ given → MadeSince u v gives → MadeSince v w es → MadeSince u w (given ++ es)
 given_then u v w gives given es is a b = subst (λ (l : List SlotEntry). MadeSince u w (l ++ es)) is (made_then u v w gives es a b)
@@ -159,11 +163,16 @@ all_ended k place (Some r) p q e = (ended_by (by.Codec k place) r e.0 ∷ [], e.
 closed_is : (t : TurnedValue) (place at : ℕ) (removed : Option RemovedValue) (r : RemovedValue) (media : List MediaRef) (coder : Option Lent) → record { place = place; removed = removed } ≡ t → removed ≡ Some r → record { place = at; media = media; coder = coder } ≡ r → t ≡ record { place = place; removed = Some (record { place = at; media = media; coder = coder }) }
 closed_is t place at removed r media coder is some removed_is = sym is ∙ ((λ i. record { place = place; removed = some i }) ∙ (λ i. record { place = place; removed = Some (sym removed_is i) }))
 
+-- what was asked for is by entries of the codec
+of_asked : (k : ℕ) (es : List SlotEntry) (x : Holds Box) → AreAsked k es x → AreOfCodec k es
+of_asked k [] x h = tt
+of_asked k (a ∷ rest) x h = ((h.0.0, h.0.3), of_asked k rest x h.1)
+
 -- a start and its end
-pub work_settles : (s : Shared) (a b c : View Event) (u v w : View SlotEntry) (p q : View PoolEntry) (k : ℕ) (job : JobValue) (es : List SlotEntry) (back : EndedValue) (place : ℕ) (media : Option MediaRef) (coder : Option Lent)
-    → k ≡ s.codec → record { place = place; media = media; coder = coder } ≡ back → StartOwes s (Some job) a b → DoneOwes s es back b c → MadeSince u v (given_if s.codec (missing_id job) job.place job.coder ++ es) → MadeSince v w (gives_of k place coder) → EndsIf k place media p q
+pub work_settles : (s : Shared) (a b c : View Event) (u v w : View SlotEntry) (p q : View PoolEntry) (k : ℕ) (job : JobValue) (es : List SlotEntry) (back : EndedValue) (place : ℕ) (media : Option MediaRef) (coder : Option Lent) (x : Holds Box)
+    → AreAsked s.codec es x → k ≡ s.codec → record { place = place; media = media; coder = coder } ≡ back → StartOwes s (Some job) a b → DoneOwes s es back b c → MadeSince u v (given_if s.codec (missing_id job) job.place job.coder ++ es) → MadeSince v w (gives_of k place coder) → EndsIf k place media p q
     → Settles s a c u w p q
-work_settles s a b c u v w p q k job es back place media coder same is start done first last ends =
+work_settles s a b c u v w p q k job es back place media coder x asked same is start done first last ends =
     let given : List SlotEntry = given_if s.codec (missing_id job) job.place job.coder in
     let returned : List SlotEntry = gives_of s.codec back.place back.coder in
     let calls : List (ℕ × PoolOp) = ends_at back.place (map pair_of (in_order back.media)) in
@@ -174,6 +183,7 @@ work_settles s a b c u v w p q k job es back place media coder same is start don
       calls = calls;
       owes = owes_then s a b c given (es ++ returned) [] calls start done;
       made = subst (λ (l : List SlotEntry). MadeSince u w l) (append_assoc given es returned) (made_then u v w (given ++ es) returned first (subst (λ (l : List SlotEntry). MadeSince v w l) back_is last));
+      own = of_codec_both s.codec given (es ++ returned) (given_of_codec s.codec (missing_id job) job.place job.coder) (of_codec_both s.codec es returned (of_asked s.codec es x asked) (gives_of_codec s.codec back.place back.coder));
       does = closed.0;
       pool = closed.1;
       are = closed.2;
@@ -205,7 +215,7 @@ reclaim_settles s r place media coder a b c d p q is owes given ends =
 module _ {S : Type 0} where
   -- a start and its end
   pub worked : (s : Shared) (r : Registry) (a b c : Seat (Option S) (View Event)) (u v : View SlotEntry) (job : JobValue) (d : DoneValue) (es : List SlotEntry) (moment : ℕ) (back : EndedValue) (place : ℕ) (media : Option MediaRef) (coder : Option Lent)
-      → (is_some (missing_id job) ≡ true → AcquiredThen r s.codec job.place (given_if s.codec (missing_id job) job.place job.coder) d es u v) → record { place = place; media = media; coder = coder } ≡ back → StartedIn s job a b → DoneIn s d es moment back b c → WorkedIn s r moment place a c u
+      → ((id : CoderId) → missing_id job ≡ Some id → AcquiredThen r s.codec id job.place (given_if s.codec (missing_id job) job.place job.coder) d es u v) → record { place = place; media = media; coder = coder } ≡ back → StartedIn s job a b → DoneIn s d es moment back b c → WorkedIn s r moment place a c u
   worked s r a b c u v job d es moment back place media coder lacked is start done = record {
     middle = b;
     job = job;

@@ -17,3 +17,5 @@ pub mod Lends
 pub mod Looks
 pub mod Takes
 pub mod Workers
+pub mod Order
+pub mod OrderLaws

@@ -10,7 +10,7 @@ use Rattle.codec_logs.specs.Logs.{Track, opening_track, track_by}
 use Rattle.shared_codec.specs.Dues.{dues_in, dues_by, OwedSince}
 
 -- a seat with this view took in one with that: it has the passages of both, and no passage is of both
-pub record AreJoined (v w u : View Event) : Type 0 where
+pub record AreJoined {E : Type 0} (v w u : View E) : Type 0 where
   pub numbers : u.numbers ≡ v.numbers ++ w.numbers
   pub one : Continues v.numbers v.log u.log
   pub other : Continues w.numbers w.log u.log

@@ -4,6 +4,7 @@ use Rattle.atomic_table.specs.declared.shared.Seat.{Seat}
 use Rattle.wc_base.specs.declared.who.By.TheVariants as by
 use Rattle.wc_base.specs.declared.seat.View.{View}
 use Rattle.wc_config.specs.declared.codec.CoderId.{CoderId}
+use Rattle.codec_accounts.specs.Registry.{acquire_of}
 use Rattle.wc_pool.specs.declared.entry.{PoolEntry.PoolEntry}
 use Rattle.wc_pool.specs.declared.reference.MediaRef.{MediaRef}
 use Rattle.wc_pool.specs.Pools.{ended_by}
@@ -42,12 +43,18 @@ SaysOf made k place true (ended.NoSlot n) es v w = SaysRefused made k place n es
 SaysOf made k place true ended.NoMemory es v w = es ≡ []
 SaysOf made k place true _ es v w = ⊥
 
--- The end of a job that lacked a box: its seat of the registry made these acquires, by its start, and the end has the box that
--- went out.
-pub record AcquiredFor (r : Registry) (k place : ℕ) (d : DoneValue) (es : List SlotEntry) (v w : View SlotEntry) : Type 0 where
+-- each of these acquires is of a box of this coder
+abbrev pub AreAcquires : CoderId → List SlotEntry → Type 0
+AreAcquires id [] = Unit {0}
+AreAcquires id (a ∷ rest) = (acquire_of a.op ≡ id ∷ []) × AreAcquires id rest
+
+-- The end of a job that lacked a box of this coder: its seat of the registry made these acquires, by its start, and the end has
+-- the box that went out.
+pub record AcquiredFor (r : Registry) (k : ℕ) (id : CoderId) (place : ℕ) (d : DoneValue) (es : List SlotEntry) (v w : View SlotEntry) : Type 0 where
   pub since : MadeSince v w es
   pub box : BoxIs k (Some place) (box_of es) d.coder
   pub are_by : AreBy k place es
+  pub ids : AreAcquires id es
   pub tries : AreTries es
   pub out : IfOut r.id d.coder
   -- whether no box went out
@@ -67,8 +74,8 @@ pub record EndsAll (k place : ℕ) (media : List MediaRef) (v w : View PoolEntry
   pub are : DoFor k (ends_at place (map pair_of media)) entries
 
 -- The same, once these entries were made before.
-abbrev pub AcquiredThen : Registry → ℕ → ℕ → List SlotEntry → DoneValue → List SlotEntry → View SlotEntry → View SlotEntry → Type 0
-AcquiredThen r k place given d es v w = (x : View SlotEntry) × MadeSince v x given × AcquiredFor r k place d es x w
+abbrev pub AcquiredThen : Registry → ℕ → CoderId → ℕ → List SlotEntry → DoneValue → List SlotEntry → View SlotEntry → View SlotEntry → Type 0
+AcquiredThen r k id place given d es v w = (x : View SlotEntry) × MadeSince v x given × AcquiredFor r k id place d es x w
 
 module _ {S : Type 0} where
   -- One item of a codec, from its start to its end. Where its job lacked a box, `lacked` is what its acquire told.
@@ -82,7 +89,7 @@ module _ {S : Type 0} where
     pub is_place : place ≡ back.place
     pub finished : DoneIn s done acquires moment back middle b
     pub acquired : View SlotEntry
-    pub lacked : is_some (missing_id job) ≡ true → AcquiredThen r s.codec job.place (given_if s.codec (missing_id job) job.place job.coder) done acquires c acquired
+    pub lacked : (id : CoderId) → missing_id job ≡ Some id → AcquiredThen r s.codec id job.place (given_if s.codec (missing_id job) job.place job.coder) done acquires c acquired
 
   -- the item at the front was worked, or nothing could start
   abbrev pub WorkTells : Shared → Registry → ℕ → Option ℕ → Seat (Option S) (View Event) → Seat (Option S) (View Event) → View SlotEntry → Type 0

@@ -87,6 +87,7 @@ impl<C: Coder> SharedCodec<C> {
         ensures codec { IfOk result (λ r. r.0.codec ≡ codec) }
         ensures opening { IfOk result
             (λ r. r.0.opening ≡ record { kind = kind; saturation = saturation }) }
+        ensures calls { IfOk result (λ r. r.0.calls ≡ calls) }
         ensures pool { IfOk result (λ r. r.0.pool ≡ pool.now) }
         ensures slots { IfOk result (λ r. r.0.slots ≡ slots.now.id) }
         ensures seat { IfOk result (λ r. (r.1.table_id ≡ r.0.id) × HasView first_view r.1) }

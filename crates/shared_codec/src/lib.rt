@@ -14,7 +14,7 @@ mod takes;
 mod workers;
 
 pub use codec::{About, CodecSeat, Locked, SharedCodec};
-pub use laws::dues_add_up;
+pub use laws::{dues_add_up, order_is_kept};
 pub use lender::{Lender, OpenMedium};
 pub use settling::Answer;
 pub use takes::NextOutput;

@@ -13,6 +13,7 @@ ghost use Rattle.shared_codec.specs.Dues.{IsLater, gives_of, given_if};
 ghost use Rattle.shared_codec.specs.Keeps.{Keeps};
 ghost use Rattle.shared_codec.specs.Shared.{HasJob, MayEnd};
 ghost use Rattle.shared_codec.specs.Settles.{Settles};
+ghost use Rattle.wc_config.specs.declared.codec.CoderId.{CoderId};
 ghost use Rattle.shared_codec.specs.Workers.{AcquiredFor, AcquiredThen, EndsIf, EndsAll, WorkTells};
 
 use crate::codec::{CodecSeat, SharedCodec};
@@ -116,7 +117,7 @@ fn acquire_end<C: Coder, R: Wait>(
     ensures same { IsSameSeat seat.old seat.new }
     ensures free { IsFree slots.now.id seat.new }
     ensures end { (s : State) → IsJobOf s job → IsEndOf s result.0 }
-    ensures acquired { AcquiredFor slots.now codec job.place result.0 (acquires_of result.1)
+    ensures acquired { AcquiredFor slots.now codec id job.place result.0 (acquires_of result.1)
         seat.old.me.0 seat.new.me.0 }
 {
     let by = By::Codec {
@@ -161,8 +162,8 @@ impl<C: Coder> SharedCodec<C> {
         ensures made { let given = given_if self.now.codec (missing_id job) job.place job.coder in
             MadeSince slot_seat.old.me.0 slot_seat.new.me.0 (given ++ acquires_of result.1) }
         ensures lacked { let given = given_if self.now.codec (missing_id job) job.place job.coder in
-            is_some (missing_id job) ≡ true
-            → AcquiredThen slots.now self.now.codec job.place given result.0
+            (id : CoderId) → missing_id job ≡ Some id
+            → AcquiredThen slots.now self.now.codec id job.place given result.0
             (acquires_of result.1) slot_seat.old.me.0 slot_seat.new.me.0 }
     {
         let _ = seat;

@@ -21,5 +21,5 @@ returns-clause-work g c =
 pub returns-clause-settles : goal.returns-clause-settles
 returns-clause-settles g c =
     let codec_is : c.self.inside.codec ≡ c.args.self.now.codec = c.self.invariant ∙ ap (λ (s : Shared). s.codec) c.self.view_is in
-    work_settles c.args.self.now c.args.seat.now.me.0 c.start.new.seat.me.0 c.done-ended.new.seat.me.0 c.args.slot_seat.now.me.0 c.end_job-done.new.slot_seat.me.0 c.give_if.new.seat.me.0 c.args.pool_seat.now.me.0 c.end_if.new.seat.me.0 c.self.inside.codec c.in-Some.job (acquires_of c.end_job-done.result.1) c.done-ended.result c.ended.inside.place c.ended.inside.media c.ended.inside.coder
-    codec_is c.ended.view_is c.in-Some.ensures.owes c.done-ended.ensures.owes c.end_job-done.ensures.made c.give_if.ensures.made c.end_if.ensures.ends
+    work_settles c.args.self.now c.args.seat.now.me.0 c.start.new.seat.me.0 c.done-ended.new.seat.me.0 c.args.slot_seat.now.me.0 c.end_job-done.new.slot_seat.me.0 c.give_if.new.seat.me.0 c.args.pool_seat.now.me.0 c.end_if.new.seat.me.0 c.self.inside.codec c.in-Some.job (acquires_of c.end_job-done.result.1) c.done-ended.result c.ended.inside.place c.ended.inside.media c.ended.inside.coder _
+    c.end_job-done.ensures.may.asked codec_is c.ended.view_is c.in-Some.ensures.owes c.done-ended.ensures.owes c.end_job-done.ensures.made c.give_if.ensures.made c.end_if.ensures.ends

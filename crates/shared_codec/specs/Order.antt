@@ -1,6 +1,6 @@
 -- What a thread carries of the order of its entries elsewhere: those by each entry of a codec are in the order in which that one's log
 -- calls for them.
-use Rattle.std.specs.Prelude.{ℕ, ◌≡◌, ◌==◌, ◌⊎◌, cond, List, [], ◌∷◌, ◌++◌}
+use Rattle.std.specs.Prelude.{ℕ, ◌≡◌, ◌==◌, ◌⊎◌, false, cond, List, [], ◌∷◌, ◌++◌}
 use Rattle.std.specs.List.{flat_map}
 use Rattle.wc_base.specs.Views.{Log}
 use Rattle.wc_base.specs.declared.who.By.TheVariants as by
@@ -8,23 +8,15 @@ use Rattle.wc_base.specs.declared.seat.Passage.TheVariants.{Made, Look}
 use Rattle.wc_base.specs.declared.seat.View.{View}
 use Rattle.wc_pool.specs.declared.entry.PoolEntry.{PoolEntry}
 use Rattle.wc_pool.specs.declared.entry.PoolOp.{PoolOp}
+use Rattle.wc_pool.specs.declared.entry.PoolOp.TheVariants as op
 use Rattle.coder_api.specs.declared.slot.SlotEntry.{SlotEntry}
 use Rattle.codec_model.specs.declared.entry.Opening.{Opening}
 use Rattle.codec_accounts.specs.Registry.{is_cause}
-use Rattle.seat_lock.specs.Logs.{AreApart, Continues}
 use Rattle.seat_lock.specs.Since.{entries_by}
 use Rattle.codec_logs.specs.declared.event.Event.{Event}
 use Rattle.codec_logs.specs.Logs.{Track, opening_track, track_made, IsLog}
-use Rattle.media_accounts.specs.Accounts.{is_by_entry, without_last}
 use Rattle.shared_codec.specs.Dues.{slot_dues, media_dues, OwedSince}
 use Rattle.shared_codec.specs.Sums.{AreJoined, DuesAddUp, dues_of}
-
--- a seat with this view took in one with that: it has the passages of both, and no passage is of both
-pub record TookIn {E : Type 0} (v w u : View E) : Type 0 where
-  pub numbers : u.numbers ≡ v.numbers ++ w.numbers
-  pub one : Continues v.numbers v.log u.log
-  pub other : Continues w.numbers w.log u.log
-  pub apart : AreApart v.numbers w.numbers
 
 -- the entries of the passages of a seat, and of those that it took in, in order
 abbrev pub made_by : {E : Type 0} → View E → List E
@@ -53,7 +45,7 @@ module _ {D X R : Type 0} (due : ℕ → Event → Track → List D) (asks : ℕ
     pub more : (k : ℕ) (o : Opening) (v w : View Event) (es : List D) (made new : List X) → DuesAddUp due → OwedSince due k o v w es → ((place : ℕ) → flat_map (asks k place) es ≡ flat_map (does k place) new)
         → IsInOrder k o v made → IsInOrder k o w (made ++ new)
     pub others : (k : ℕ) (o : Opening) (v : View Event) (made new : List X) → ((place : ℕ) → flat_map (does k place) new ≡ []) → IsInOrder k o v made → IsInOrder k o v (made ++ new)
-    pub joined : (k : ℕ) (o : Opening) (v w u : View Event) (a b c : View X) → AreJoined v w u → TookIn a b c → IsLog k o u.log → IsInOrder k o v (made_by a) → IsInOrder k o w (made_by b) → IsInOrder k o u (made_by c)
+    pub joined : (k : ℕ) (o : Opening) (v w u : View Event) (a b c : View X) → AreJoined v w u → AreJoined a b c → IsLog k o u.log → IsInOrder k o v (made_by a) → IsInOrder k o w (made_by b) → IsInOrder k o u (made_by c)
 
 -- ---- in the registry, and in the pool
 
@@ -63,8 +55,18 @@ slot_at k place e = cond (is_cause (by.Codec k place) e.by) (e ∷ []) []
 abbrev pub asked_at : ℕ → ℕ → ℕ × PoolOp → List PoolOp
 asked_at k place d = cond (d.0 == place) (d.1 ∷ []) []
 
+-- what is called for by the entry at a place, in order
+abbrev pub ops_at : ℕ → List (ℕ × PoolOp) → List PoolOp
+ops_at place dues = flat_map (λ d. cond (d.0 == place) (d.1 ∷ []) []) dues
+
+-- what an entry of a pool does, without whether an end was the last of its resource
+abbrev pub told_op : PoolOp → PoolOp
+told_op (op.Make r f) = op.Make r f
+told_op (op.Clone r f) = op.Clone r f
+told_op (op.End r f last) = op.End r f false
+
 abbrev pub done_at : ℕ → ℕ → PoolEntry → List PoolOp
-done_at k place e = cond (is_by_entry k place e.by) (without_last e.op ∷ []) []
+done_at k place e = cond (is_cause (by.Codec k place) e.by) (told_op e.op ∷ []) []
 
 abbrev pub SlotOrderIsKept : Type 0
 SlotOrderIsKept = OrderIsKept slot_dues slot_at slot_at

@@ -1,5 +1,5 @@
-use Rattle.run_laws.proofs.Ordering.{media_order, slot_order}
-use Rattle.run_laws.proofs.laws.order_is_kept.Goals as goal
+use Rattle.shared_codec.proofs.Ordering.{media_order, slot_order}
+use Rattle.shared_codec.proofs.laws.order_is_kept.Goals as goal
 
 pub returns-clause-slots : goal.returns-clause-slots
 returns-clause-slots c = slot_order

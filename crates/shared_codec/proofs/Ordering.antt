@@ -20,10 +20,8 @@ use Rattle.codec_logs.specs.Logs.{Track, opening_track, track_from, track_made, 
 use Rattle.shared_codec.specs.Dues.{dues_by, give_by, slot_dues, media_dues}
 use Rattle.shared_codec.specs.DueLaws.{not_in, none_due, due_append}
 use Rattle.shared_codec.specs.Sums.{AreJoined, dues_of}
-use Rattle.run_laws.specs.Order.{TookIn, made_by, IsInOrder, AuthorIs, HaveAuthors, OrderIsKept, slot_at, asked_at, done_at, SlotOrderIsKept, MediaOrderIsKept}
-use Rattle.run_laws.proofs.Dues.{place_by}
-use Rattle.run_laws.proofs.Trying.{other_place}
-use Rattle.run_laws.proofs.Lending.{event_other}
+use Rattle.shared_codec.specs.Order.{made_by, IsInOrder, AuthorIs, HaveAuthors, OrderIsKept, slot_at, asked_at, done_at, SlotOrderIsKept, MediaOrderIsKept}
+use Rattle.shared_codec.specs.OrderLaws.{place_by, other_place, event_other}
 
 -- ---- numbers in two lists
 
@@ -174,7 +172,7 @@ module _ {D X R : Type 0} (due : ℕ → Event → Track → List D) (asks : ℕ
       ∙ (due_append due k numbers (opening_track o) start goes.more
       ∙ (ap (λ (l : List D). dues_by due k numbers (opening_track o) start ++ l) (none_due due k numbers (track_from (opening_track o) start) goes.more goes.by_others) ∙ append-nil (dues_by due k numbers (opening_track o) start)))
 
-  joined_order : HaveAuthors due asks does → (k : ℕ) (o : Opening) (v w u : View Event) (a b c : View X) → AreJoined v w u → TookIn a b c → IsLog k o u.log → IsInOrder due asks does k o v (made_by a) → IsInOrder due asks does k o w (made_by b)
+  joined_order : HaveAuthors due asks does → (k : ℕ) (o : Opening) (v w u : View Event) (a b c : View X) → AreJoined v w u → AreJoined a b c → IsLog k o u.log → IsInOrder due asks does k o v (made_by a) → IsInOrder due asks does k o w (made_by b)
       → IsInOrder due asks does k o u (made_by c)
   joined_order authors k o v w u a b c join took legal first second place =
       let author = authors k o u.log place legal in
