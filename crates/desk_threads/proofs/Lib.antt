@@ -1,4 +1,5 @@
 mod Joining
 mod Lists
+mod Ordering
 mod Resting
 mod SeatSteps

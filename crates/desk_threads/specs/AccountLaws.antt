@@ -14,6 +14,7 @@ use Rattle.codec_logs.specs.declared.event.Event.{Event}
 use Rattle.codec_logs.specs.Logs.{Track, opening_track}
 use Rattle.shared_codec.specs.Dues.{dues_by, slot_dues, media_dues}
 use Rattle.shared_codec.specs.DueLaws.{none_due}
+use Rattle.shared_codec.specs.Order.{made_by}
 use Rattle.shared_codec.specs.Shared.{Shared}
 use Rattle.shared_codec.specs.Sums.{dues_of, DuesAddUp}
 use Rattle.codec_desk.specs.declared.desk.Desk.{Desk}
@@ -21,7 +22,7 @@ use Rattle.codec_desk.specs.declared.desk.Seats.{Seats}
 use Rattle.codec_desk.specs.DeskLaws.{map_both}
 use Rattle.codec_desk.specs.Desks.{told, entry_for, slot_calls, pool_calls, Settled}
 use Rattle.codec_desk.specs.Each.{total_of}
-use Rattle.desk_threads.specs.Accounts.{made_by, is_by_codec, for_codecs, Balanced, EachSawNone, SawNone, EachByAll, all_slot_calls, all_pool_calls, AreAll, AllBalanced}
+use Rattle.desk_threads.specs.Accounts.{is_by_codec, for_codecs, Balanced, EachSawNone, SawNone, EachByAll, all_slot_calls, all_pool_calls, AreAll, AllBalanced}
 use Rattle.desk_threads.specs.MadeLaws.{entries_none, made_more, made_joined, made_all}
 use Rattle.desk_threads.specs.Parts.{IsSplit, IsJoin, AreSplit, AreTakenIn}
 use Rattle.desk_threads.specs.PartLaws.{total_second, total_third, total_both}
@@ -135,10 +136,10 @@ module _ {S : Type 0} {D : Type 0} (due : ℕ → Event → Track → List D) wh
       (record { numbers = ap (λ (m : Sitting S Event). m.0.numbers) join.both.view; one = join.both.continues_one; other = join.both.continues_other; apart = join.both.apart })
 
 module _ {S E : Type 0} where
-  left_made : (id : TableId) (u v w : Seat (Option S) (View E)) → IsSplit id u v w → made_by v.me.0 ≡ made_by u.me.0
+  pub left_made : (id : TableId) (u v w : Seat (Option S) (View E)) → IsSplit id u v w → made_by v.me.0 ≡ made_by u.me.0
   left_made id u v w split = ap (λ (m : Sitting S E). made_by m.0) split.left.1
 
-  new_made : (id : TableId) (u v w : Seat (Option S) (View E)) → IsSplit id u v w → made_by w.me.0 ≡ []
+  pub new_made : (id : TableId) (u v w : Seat (Option S) (View E)) → IsSplit id u v w → made_by w.me.0 ≡ []
   new_made id u v w split = ap (λ (m : Sitting S E). made_by m.0) split.new.view ∙ entries_none (split.new.number ∷ []) u.me.0.log split.new.made_none
 
   both_made : (u v w : Seat (Option S) (View E)) → IsJoin u v w → SameBag (made_by w.me.0) (made_by u.me.0 ++ made_by v.me.0)

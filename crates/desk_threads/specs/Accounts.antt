@@ -9,10 +9,10 @@ use Rattle.wc_pool.specs.declared.entry.PoolEntry.{PoolEntry}
 use Rattle.coder_api.specs.declared.slot.SlotEntry.{SlotEntry}
 use Rattle.codec_accounts.specs.Bags.{SameBag}
 use Rattle.seat_lock.specs.Logs.{AllBy, entries_of}
-use Rattle.seat_lock.specs.Since.{entries_by}
 use Rattle.codec_logs.specs.declared.event.Event.{Event}
 use Rattle.codec_logs.specs.Logs.{opening_track}
 use Rattle.shared_codec.specs.Dues.{Called, slot_dues, media_dues, call_dues}
+use Rattle.shared_codec.specs.Order.{made_by}
 use Rattle.shared_codec.specs.Shared.{Shared}
 use Rattle.shared_codec.specs.Sums.{all_dues}
 use Rattle.codec_desk.specs.declared.desk.Desk.{Desk}
@@ -20,10 +20,6 @@ use Rattle.codec_desk.specs.declared.desk.Seats.{Seats}
 use Rattle.codec_desk.specs.Desks.{told, entry_for, slot_calls, pool_calls, Settled}
 use Rattle.codec_desk.specs.Each.{total_of}
 use Rattle.codec_desk.specs.Named.{calls_made, Calls}
-
--- the entries of the passages of a seat, and of those that it took in, in order
-abbrev pub made_by : {E : Type 0} → View E → List E
-made_by v = entries_by v.numbers v.log
 
 -- the entry was made for an entry of a codec, and not by a step of a caller
 abbrev pub is_by_codec : By → Bool

@@ -44,3 +44,7 @@ module _ {C K : Type 0} (told : K → Option (List ℕ)) (desk : Desk C) where
     pub calls : Calls desk [] was.seats job.seats
     pub found : Found desk was.role was.seats job.seats
     pub timed : Timed desk was.seats job.seats (told was.clock) (told job.clock)
+
+  -- each job was done
+  abbrev pub AreDone : List (Job C K) → List (Job C K) → Type 0
+  AreDone before after = (i : ℕ) (was job : Job C K) → slice_get before i ≡ Some was → slice_get after i ≡ Some job → IsDone was job

@@ -8,3 +8,6 @@ pub mod Rested
 pub mod Runs
 pub mod RunLaws
 pub mod CallLaws
+pub mod Longer
+pub mod LongerLaws
+pub mod Orders

@@ -11,7 +11,7 @@ use Rattle.seat_lock.specs.Logs.{AreApart, NoneBy, AllBy, Continues, entry_in, e
 use Rattle.seat_lock.specs.Own.{is_in}
 use Rattle.seat_lock.specs.Since.{entries_by, MadeSince}
 use Rattle.shared_codec.specs.DueLaws.{not_in, has_in}
-use Rattle.desk_threads.specs.Accounts.{made_by}
+use Rattle.shared_codec.specs.Order.{made_by}
 
 -- ---- numbers of two lists
 

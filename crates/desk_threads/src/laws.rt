@@ -1,10 +1,11 @@
 // Laws of the accounts of threads, and of desks with nothing left to do.
 ghost use Rattle.desk_threads.specs.Accounts.{AccountsBegin, AccountsAreKept, AccountsAreHistories};
 ghost use Rattle.desk_threads.specs.Accounts.{CallsBegin, CallsAreKept, CallsAreHistories};
+ghost use Rattle.desk_threads.specs.Orders.{OrderStands};
 ghost use Rattle.desk_threads.specs.Runs.{RestIsQuiet};
 
 use coder_api::Coder;
-use shared_codec::dues_add_up;
+use shared_codec::{dues_add_up, order_is_kept};
 
 /// Law: the account of seats that have seen nothing is balanced, and it stays so whatever a thread settles. Of seats that have all
 /// passages the registry's history is what the codecs' logs call for, and so is what the pool's made for codecs.
@@ -29,3 +30,13 @@ pub fn calls_are_kept<C: Coder>()
     ensures kept { CallsAreKept C }
     ensures all { CallsAreHistories C }
 {}
+
+/// Law: what a thread made elsewhere by an entry of a codec is what that entry calls for, in order. This stands whatever a thread
+/// settles, as its seats are split, and where it takes in another thread's. Of seats that have all passages it is so of the
+/// registry's history and of the pool's.
+pub fn order_stands<C: Coder>()
+    ensures { OrderStands C }
+{
+    dues_add_up();
+    order_is_kept();
+}

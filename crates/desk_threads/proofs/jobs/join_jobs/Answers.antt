@@ -1,6 +1,7 @@
 use Rattle.std.proofs.Common.{rules, ℕ, ◌+◌, List, length, sym, ap, subst, arith}
 use Rattle.desk_threads.specs.declared.jobs.Job.{Job}
 use Rattle.desk_threads.specs.CallLaws.{named_same}
+use Rattle.desk_threads.specs.LongerLaws.{saw_same, saw_then, saw_joined}
 use Rattle.desk_threads.specs.Parts.{HaveParts}
 use Rattle.desk_threads.proofs.Joining.{AllReady, AllUncalled, all_ready, all_uncalled, parts_more}
 use Rattle.desk_threads.proofs.jobs.join_jobs.Goals as goal
@@ -17,6 +18,7 @@ loop-job-init g c =
       calls = λ none calls was. was;
       uncalled = λ none. subst (λ (l : List J). AllUncalled c.args.desk.now l) (sym gives.0) (all_uncalled c.args.desk.now c.args.jobs.items none);
       runs = λ none. none;
+      seen = saw_same c.args.desk.now c.args.seats.now c.requires.sits;
       rest = subst (λ (l : List J). AllReady c.args.desk.now l) (sym gives.0) (all_ready c.args.desk.now c.args.jobs.items c.requires.jobs);
     }
 
@@ -44,6 +46,7 @@ loop-job-preserved g c =
       calls = λ none calls was. named_same c.args.desk.now c.loop-job.seats _ c.join_seats.new.seats calls e.joined (i.calls none calls was) (subst (λ (l : List J). AllUncalled c.args.desk.now l) steps (i.uncalled none)).0;
       uncalled = λ none. (subst (λ (l : List J). AllUncalled c.args.desk.now l) steps (i.uncalled none)).1;
       runs = λ none. e.runs (i.runs none) d.0.runs;
+      seen = saw_then c.args.desk.now c.args.seats.now c.loop-job.seats c.join_seats.new.seats i.seen (saw_joined c.args.desk.now c.loop-job.seats _ c.join_seats.new.seats e.joined);
       rest = d.1;
     }
 
@@ -67,3 +70,6 @@ returns-clause-runs g c none = c.loop-job.invariant.runs none
 
 pub returns-clause-calls : goal.returns-clause-calls
 returns-clause-calls g c none calls was = c.loop-job.invariant.calls none calls was
+
+pub returns-clause-seen : goal.returns-clause-seen
+returns-clause-seen g c = c.loop-job.invariant.seen

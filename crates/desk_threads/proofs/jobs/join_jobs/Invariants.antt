@@ -5,6 +5,7 @@ use Rattle.codec_desk.specs.Desks.{SitAt}
 use Rattle.codec_desk.specs.Runs.{EachRunsNone}
 use Rattle.desk_threads.specs.Accounts.{Balanced, Named}
 use Rattle.desk_threads.specs.Jobs.{NoneCalled}
+use Rattle.desk_threads.specs.Longer.{EachSawAll}
 use Rattle.desk_threads.specs.Parts.{HaveParts}
 use Rattle.desk_threads.proofs.Joining.{AllReady, AllUncalled}
 use Rattle.desk_threads.proofs.jobs.join_jobs.Given as goal
@@ -19,5 +20,6 @@ invariant-loop-job g l = record {
   calls : NoneCalled l.fn.desk l.fn.jobs.items → (calls : List Called) → Named l.fn.desk calls l.fn.seats → Named l.fn.desk calls l.seats;
   uncalled : NoneCalled l.fn.desk l.fn.jobs.items → AllUncalled l.fn.desk (into_iter_items l.job-iterator);
   runs : EachRunsNone l.fn.desk.codecs.items l.fn.seats.codecs.items → EachRunsNone l.fn.desk.codecs.items l.seats.codecs.items;
+  seen : EachSawAll l.fn.desk l.fn.seats l.seats;
   rest : AllReady l.fn.desk (into_iter_items l.job-iterator);
 }
