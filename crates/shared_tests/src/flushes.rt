@@ -3,8 +3,9 @@ ghost use Rattle.std.specs.Prelude.{◌≡◌, ◌≤◌, IfOk};
 ghost use Rattle.seat_lock.specs.Seats.{IsIdleAt, HasView, first_view};
 ghost use Rattle.shared_tests.specs.Resting.{Rests};
 
+use codec_core::Core;
 use codec_media::HoldingCore;
-use codec_model::{Call, Kind, PromiseState};
+use codec_model::{Call, Entry, Kind, PromiseState};
 use sample_coder::SampleCoder;
 use shared_codec::{CodecSeat, SharedCodec};
 use shared_pool::SharedPool;
@@ -125,4 +126,49 @@ pub fn flush_both<R: Threads + Wait + Sync>(
     );
     codec.join(&mut one, other);
     codec.finish(one)
+}
+
+// Whether each caller's flushes stand in the history once and in order, so many of each, and no other entry.
+fn are_both(core: &Core<SampleCoder>, count: u32) -> bool {
+    let mut first = 0;
+    let mut second = 0;
+    let (entries, _, _) = core.look();
+    for place in 0..entries {
+        let Some(
+            Entry::Call {
+                who,
+                call: Call::Flush,
+            },
+        ) = core.entry(place)
+        else {
+            return false;
+        };
+        if who.caller == 1 && who.step == first && first < count {
+            first += 1;
+        } else if who.caller == 2 && who.step == second && second < count {
+            second += 1;
+        } else {
+            return false;
+        }
+    }
+    first == count && second == count
+}
+
+/// A flush of a codec of its own, with looks through two seats, and how many entries were made.
+pub fn flush_alone<R: Wait>(rt: &R, alloc: Global) -> Result<(Looks, u64), NoMemory> {
+    let (codec, mut first) = open_codec(alloc, 4)?;
+    let looks = flush_and_look(rt, &codec, &mut first);
+    let core = codec.finish(first);
+    Ok((looks, core.core().look().0))
+}
+
+/// How many entries two threads make with so many flushes each, and whether each thread's stand once and in order.
+pub fn count_flushes<R: Threads + Wait + Sync>(
+    rt: &R,
+    alloc: Global,
+    count: u32,
+) -> Result<(u64, bool), NoMemory> {
+    let (codec, seat) = open_codec(alloc, 2 * count as u64)?;
+    let core = flush_both(rt, codec, seat, count);
+    Ok((core.core().look().0, are_both(core.core(), count)))
 }

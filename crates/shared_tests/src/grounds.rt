@@ -2,9 +2,11 @@
 ghost use Rattle.seat_lock.specs.Seats.{IsIdleAt};
 ghost use Rattle.shared_tests.specs.Resting.{Rests};
 
+use crate::flushes::open_codec;
 use codec_model::{Call, Kind};
 use sample_coder::SampleCoder;
 use shared_codec::{CodecSeat, SharedCodec};
+use std::alloc::Global;
 use std::sync::Wait;
 use wc_base::{Ground, NoMemory, Who};
 
@@ -34,4 +36,12 @@ pub fn tell_and_look<R: Wait>(
     let at = codec.ground(rt, seat);
     let holding = codec.holding(rt, seat);
     Told { place, at, holding }
+}
+
+/// The same to a codec of its own, and how many entries were made.
+pub fn tell_alone<R: Wait>(rt: &R, alloc: Global, to: Ground) -> Result<(Told, u64), NoMemory> {
+    let (codec, mut seat) = open_codec(alloc, 1)?;
+    let told = tell_and_look(rt, &codec, &mut seat, to);
+    let core = codec.finish(seat);
+    Ok((told, core.core().look().0))
 }

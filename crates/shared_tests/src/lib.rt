@@ -1,6 +1,7 @@
 //! Tests of what stands behind locks: a pool, a registry and codecs that threads share.
 #![tactic(auto)]
 
+mod counts;
 mod desk;
 #[cfg(test)]
 mod flush_tests;
