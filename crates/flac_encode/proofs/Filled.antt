@@ -1,9 +1,11 @@
 -- Lists that are filled from the front.
-use Rattle.std.proofs.Common.{ℕ, zero, suc, ℤ, pos, ◌≡◌, ◌<◌, ◌≤◌, ◌+◌, ◌-◌, ◌*◌, ◌/◌, ◌%◌, Bool, take, drop, drop-cons, mod-eq_of_lt, List, [], ◌∷◌, ◌++◌, length, get_or, inl, inr, refl, ap, sym, subst, ◌∙◌, arith, append-nil, length-append, zero-add}
+use Rattle.std.proofs.Common.{ℕ, zero, suc, ℤ, pos, ◌≡◌, ◌<◌, ◌≤◌, ◌+◌, ◌-◌, ◌*◌, ◌/◌, ◌%◌, Bool, take, drop, drop-cons, mod-eq_of_lt, List, [], ◌∷◌, ◌++◌, length, get_or, set, inl, inr, refl, ap, sym, subst, ◌∙◌, arith, append-nil, length-append, zero-add}
 use Rattle.std.specs.List.{flat_map, range_with_len}
 use Rattle.std.proofs.Math.ListN.{get_or-append}
 use Rattle.std.proofs.Math.Seq.{get_or-append_right}
 use Rattle.std.proofs.lemmas.Bool.{cases_lt}
+use Rattle.std.proofs.lemmas.Grind.{get_or-set_at}
+use Rattle.std.proofs.lemmas.List.{get_or-set_other}
 use Rattle.std.proofs.lemmas.List.Concat.{flat_map-append}
 use Rattle.std.proofs.lemmas.List.FromFn.{fill_by_all, length-map-range_with_len}
 use Rattle.std.proofs.Math.Seq.{take-append_seam}
@@ -40,6 +42,13 @@ fits_none depth = λ j l. absurd (omega (arith, l))
 
 pub fits_more : (depth : ℕ) (xs next : List ℤ) (v : ℤ) → HaveDepth depth xs → HasDepth depth v → next ≡ xs ++ v ∷ [] → HaveDepth depth next
 fits_more depth xs next v a b e = subst (HaveDepth depth) (sym e) (fits_both depth xs (v ∷ []) a (fits_one depth v b))
+
+-- what is so of each element before a place is so of the one that is set there too
+pub set_each : (P : ℕ → ℤ → Type 0) (xs : List ℤ) (i : ℕ) (v : ℤ) → i < length xs → ((k : ℕ) → k < i → P k (get_or xs k (pos 0))) → P i v → (k : ℕ) → k < i + 1 → P k (get_or (set xs i v) k (pos 0))
+set_each P xs i v there before own k less = elim (cases_lt k i) [
+  | inl l ↦ subst (P k) (sym (get_or-set_other xs i k v (pos 0) (λ e. omega (arith, e, l)))) (before k l)
+  | inr g ↦ (let same : k ≡ i = omega (arith, less, g) in subst (P k) (sym (get_or-set_at xs i k v (pos 0) same there)) (subst (λ (j : ℕ). P j v) (sym same) own))
+]
 
 -- ---- the bytes of bits
 

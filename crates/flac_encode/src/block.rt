@@ -9,7 +9,6 @@ ghost use Rattle.flac_definitions.specs.FrameWriting.{frame_bits};
 ghost use Rattle.codec_definitions.specs.FlacCode.{format_of, channel_apart, apart, bytes_with, flac_code};
 ghost use Rattle.flac_encode.specs.Steps.{IsRanged};
 
-use crate::values::push_value;
 use bytes::Bytes;
 use flac_blocks::{BlockFormat, encode_block};
 use std::alloc::Global;
@@ -78,13 +77,15 @@ fn apart(alloc: Global, channels: usize, depth: u32, values: &[i32]) -> Result<V
 {
     let mut out = Vec::with_capacity(alloc, values.len())?;
     for channel in 0..channels {
-        push_channel(channels, depth, values, channel, &mut out)?;
+        push_channel(alloc, channels, depth, values, channel, &mut out)?;
     }
     Ok(out)
 }
 
 /// Appends the samples of a channel.
+#[tactic(auto, using(crate::proofs::Filled::fits_both))]
 fn push_channel(
+    alloc: Global,
     channels: usize,
     depth: u32,
     values: &[i32],
@@ -100,39 +101,43 @@ fn push_channel(
         (out.new.items ≡ out.old.items ++ channel_apart channels values.now channel) }
     ensures fit { OnOk result (HaveDepth depth out.new.items) }
 {
-    if channels == 1 {
-        return push_each(channels, depth, values, channel, out);
-    }
-    if channels == 2 {
-        return push_each(channels, depth, values, channel, out);
-    }
-    push_each(channels, depth, values, channel, out)
+    let mut more = Vec::from_elem(alloc, 0, values.len() / channels)?;
+    fill_channel(channels, depth, values, channel, more.as_mut_slice());
+    Ok(out.append(&mut more)?)
 }
 
-/// The same in one loop, which the compiler makes anew for each count of channels that it is called with.
-#[inline(always)]
-fn push_each(
-    channels: usize,
-    depth: u32,
-    values: &[i32],
-    channel: usize,
-    out: &mut Vec<i32>,
-) -> Result<(), NoMemory>
+/// Writes the samples of a channel: in a loop of its own where there are one or two.
+fn fill_channel(channels: usize, depth: u32, values: &[i32], channel: usize, out: &mut [i32])
     requires some { 0 < channels }
     requires few { channels ≤ 8 }
     requires channel { channel < channels }
     requires fit { HaveDepth depth values.now }
-    requires so_far { HaveDepth depth out.old.items }
-    ensures value { OnOk result
-        (out.new.items ≡ out.old.items ++ channel_apart channels values.now channel) }
-    ensures fit { OnOk result (HaveDepth depth out.new.items) }
+    requires count { length out.old ≡ length values.now / channels }
+    ensures value { out.new ≡ channel_apart channels values.now channel }
+    ensures fit { HaveDepth depth out.new }
+{
+    match channels {
+        1 => fill_each(1, depth, values, channel, out),
+        2 => fill_each(2, depth, values, channel, out),
+        _ => fill_each(channels, depth, values, channel, out),
+    }
+}
+
+/// The same in one loop, which the compiler makes for each count of channels that it is called with.
+#[inline(always)]
+fn fill_each(channels: usize, depth: u32, values: &[i32], channel: usize, out: &mut [i32])
+    requires some { 0 < channels }
+    requires few { channels ≤ 8 }
+    requires channel { channel < channels }
+    requires fit { HaveDepth depth values.now }
+    requires count { length out.old ≡ length values.now / channels }
+    ensures value { out.new ≡ channel_apart channels values.now channel }
+    ensures fit { HaveDepth depth out.new }
 {
     let _depth = depth;
-    for i in 0..values.len() / channels {
-        let value = sample_at(channels, values, channel, i);
-        push_value(value, out)?;
+    for i in 0..out.len() {
+        out[i] = sample_at(channels, values, channel, i);
     }
-    Ok(())
 }
 
 /// A channel's sample of a frame.

@@ -72,7 +72,7 @@ pub fn encode(
         number: e.number,
         timestamp: shape.timestamp,
     };
-    if push_values(&e.config, shape, bytes, &mut e.rest).is_err() {
+    if push_values(alloc, &e.config, shape, bytes, &mut e.rest).is_err() {
         return Err(CoderFault::NoMemory);
     }
     let mut units = Vec::new(alloc);

@@ -9,11 +9,13 @@ ghost use Rattle.codec_definitions.specs.FlacEncoder.{value_at, frame_values, va
 ghost use Rattle.flac_encode.specs.Runs.{run_value};
 
 use sample_conversion::{format_size, is_planar};
+use std::alloc::Global;
 use wc_base::{NoMemory, SoundShape};
 use wc_config::AudioEncoderConfig;
 
 /// Appends the samples of an input at the config's depth, frame by frame.
 pub fn push_values(
+    alloc: Global,
     config: &AudioEncoderConfig,
     shape: &SoundShape,
     bytes: &[u8],
@@ -32,7 +34,7 @@ pub fn push_values(
     if is_planar(shape.format) {
         push_frames(config, shape, bytes, out)
     } else {
-        push_in_turn(config, shape, bytes, out)
+        push_in_turn(alloc, config, shape, bytes, out)
     }
 }
 
@@ -60,6 +62,7 @@ fn push_frames(
 
 /// The same of samples that already stand in this order.
 fn push_in_turn(
+    alloc: Global,
     config: &AudioEncoderConfig,
     shape: &SoundShape,
     bytes: &[u8],
@@ -76,11 +79,13 @@ fn push_in_turn(
 {
     let size = format_size(shape.format);
     let count = shape.frames as usize * shape.channels as usize;
-    push_run(size, config.depth, count, bytes, out)
+    push_run(alloc, size, config.depth, count, bytes, out)
 }
 
 /// Appends so many samples at a depth.
+#[tactic(auto, using(crate::proofs::Filled::fits_both))]
 fn push_run(
+    alloc: Global,
     size: usize,
     depth: u32,
     count: usize,
@@ -95,37 +100,42 @@ fn push_run(
         ++ map (run_value size depth bytes.now) (range_with_len 0 count)) }
     ensures fit { OnOk result (HaveDepth depth out.new.items) }
 {
-    if size == 2 && depth == 16 {
-        return push_each(size, depth, count, bytes, out);
-    }
-    if size == 4 && depth == 24 {
-        return push_each(size, depth, count, bytes, out);
-    }
-    push_each(size, depth, count, bytes, out)
+    let mut values = Vec::from_elem(alloc, 0, count)?;
+    fill(size, depth, bytes, values.as_mut_slice());
+    Ok(out.append(&mut values)?)
 }
 
-/// The same in one loop, which the compiler makes anew for each size and depth that it is called with.
-#[inline(always)]
-fn push_each(
-    size: usize,
-    depth: u32,
-    count: usize,
-    bytes: &[u8],
-    out: &mut Vec<i32>,
-) -> Result<(), NoMemory>
+/// Writes samples at a depth: a loop of its own for each format that has the depth already.
+fn fill(size: usize, depth: u32, bytes: &[u8], out: &mut [i32])
     requires size { is_format_size size ≡ true }
     requires depth { is_depth depth ≡ true }
-    requires whole { count * size ≡ length bytes.now }
-    requires fit { HaveDepth depth out.old.items }
-    ensures values { OnOk result (out.new.items ≡ out.old.items
-        ++ map (run_value size depth bytes.now) (range_with_len 0 count)) }
-    ensures fit { OnOk result (HaveDepth depth out.new.items) }
+    requires whole { length out.old * size ≡ length bytes.now }
+    ensures values { out.new
+        ≡ map (run_value size depth bytes.now) (range_with_len 0 (length out.old)) }
+    ensures fit { HaveDepth depth out.new }
 {
-    for i in 0..count {
-        let value = run_value(size, depth, bytes, i);
-        push_value(value, out)?;
+    match (size, depth) {
+        (1, 8) => fill_run(1, 8, bytes, out),
+        (2, 16) => fill_run(2, 16, bytes, out),
+        (4, 24) => fill_run(4, 24, bytes, out),
+        (4, 32) => fill_run(4, 32, bytes, out),
+        _ => fill_run(size, depth, bytes, out),
     }
-    Ok(())
+}
+
+/// The same in one loop, which the compiler makes for each size and depth that it is called with.
+#[inline(always)]
+fn fill_run(size: usize, depth: u32, bytes: &[u8], out: &mut [i32])
+    requires size { is_format_size size ≡ true }
+    requires depth { is_depth depth ≡ true }
+    requires whole { length out.old * size ≡ length bytes.now }
+    ensures values { out.new
+        ≡ map (run_value size depth bytes.now) (range_with_len 0 (length out.old)) }
+    ensures fit { HaveDepth depth out.new }
+{
+    for i in 0..out.len() {
+        out[i] = run_value(size, depth, bytes, i);
+    }
 }
 
 /// One of samples that stand one after another, at a depth.
@@ -179,7 +189,7 @@ fn push_frame(
 
 /// Appends a value.
 #[inline]
-pub fn push_value(value: i32, out: &mut Vec<i32>) -> Result<(), NoMemory>
+fn push_value(value: i32, out: &mut Vec<i32>) -> Result<(), NoMemory>
     ensures { OnOk result (out.new.items ≡ out.old.items ++ value ∷ []) }
 {
     match out.push(value) {

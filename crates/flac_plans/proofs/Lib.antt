@@ -1,4 +1,5 @@
 pub mod Descent
+pub mod HeldLaws
 pub mod Least
 pub mod ResidualLaws
 pub mod Rows

@@ -6,7 +6,7 @@ use Rattle.std.specs.Prelude.{Result, Ok, Err}
 use Rattle.std.proofs.Math.Nat.{pow-le-pow_right}
 use Rattle.std.proofs.lemmas.Nat.{pow_pos, pow-add, mod_below, one_shl, and_mask}
 use Rattle.std.proofs.lemmas.List.Concat.{flat_map-append}
-use Rattle.std.proofs.lemmas.List.{map-append}
+use Rattle.std.proofs.lemmas.List.{map-append, take_more}
 use Rattle.flac_definitions.specs.ResidualSpelling.{folded_value}
 use Rattle.flac_definitions.specs.Bits.{bits_of}
 use Rattle.flac_write.specs.Writer.{IsBegun}
@@ -34,7 +34,7 @@ tail_bits k z =
     let v : 2 ^ k + z % 2 ^ k ≡ 1 * 2 ^ k + z % 2 ^ k = omega arith in
     ap (λ (m : ℕ). bits_of m (2 ^ k + z % 2 ^ k)) n ∙ (ap (bits_of (1 + k)) v ∙ (e ∙ (ap (λ (l : List Bool). l ++ bits_of k (z % 2 ^ k)) bit_one ∙ ap (λ (l : List Bool). (true ∷ []) ++ l) (bits_mod k z))))
 
-zeros_and_tail : (k z : ℕ) → bits_of (z / 2 ^ k) 0 ++ bits_of (k + 1) (2 ^ k + z % 2 ^ k) ≡ rice_bits k z
+pub zeros_and_tail : (k z : ℕ) → bits_of (z / 2 ^ k) 0 ++ bits_of (k + 1) (2 ^ k + z % 2 ^ k) ≡ rice_bits k z
 zeros_and_tail k z =
     let q = z / 2 ^ k in
     ap (λ (l : List Bool). l ++ bits_of (k + 1) (2 ^ k + z % 2 ^ k)) (bits_zero q)
@@ -100,6 +100,14 @@ pub values_at : (xs : List ℤ) (i : ℕ) → i < length xs → map folded_value
 values_at xs i h =
     let here : drop i xs ≡ get_or xs i (pos 0) ∷ drop (i + 1) xs = rw add-one (drop-cons xs i (pos 0) h) in
     ap (map folded_value) (sym (take-append-drop i xs) ∙ ap (λ (l : List ℤ). take i xs ++ l) here) ∙ map-append folded_value (take i xs) (get_or xs i (pos 0) ∷ drop (i + 1) xs)
+
+pub values_more : (f : ℕ → List Bool) (xs : List ℤ) (i : ℕ) → i < length xs → flat_map f (map folded_value (take (i + 1) xs)) ≡ flat_map f (map folded_value (take i xs)) ++ f (folded_value (get_or xs i (pos 0)))
+values_more f xs i h =
+    ap (λ (l : List ℤ). flat_map f (map folded_value l)) (take_more xs i (pos 0) h)
+    ∙ (ap (flat_map f) (map-append folded_value (take i xs) (get_or xs i (pos 0) ∷ [])) ∙ flat_more f (map folded_value (take i xs)) (folded_value (get_or xs i (pos 0))))
+
+pub values_split : (f : ℕ → List Bool) (xs : List ℤ) (i : ℕ) → i < length xs → flat_map f (map folded_value xs) ≡ flat_map f (map folded_value (take i xs)) ++ (f (folded_value (get_or xs i (pos 0))) ++ flat_map f (map folded_value (drop (i + 1) xs)))
+values_split f xs i h = ap (flat_map f) (values_at xs i h) ∙ flat_map-append f (map folded_value (take i xs)) (folded_value (get_or xs i (pos 0)) ∷ map folded_value (drop (i + 1) xs))
 
 -- numbers in order, at one of them
 range_from : (a n j b : ℕ) → j < n → a + j ≡ b → range_with_len a n ≡ range_with_len a j ++ b ∷ range_with_len (b + 1) (n - j - 1)

@@ -1,3 +1,4 @@
 pub mod FitLaws
+pub mod Held
 pub mod ResidualLaws
 pub mod Search

@@ -1,5 +1,5 @@
 // Plans.
-ghost use Rattle.std.specs.Prelude.{◌≡◌, ◌<◌, ◌≤◌, ◌+◌, ◌-◌, ◌*◌, ◌/◌, ◌%◌, ◌^◌, ℕ, true, length, ◌++◌, map, take, drop, sum_by, IfOk, IfSome, IfNone, OnOk};
+ghost use Rattle.std.specs.Prelude.{◌≡◌, ◌<◌, ◌≤◌, ◌+◌, ◌-◌, ◌*◌, ◌/◌, ◌%◌, ◌^◌, ℕ, true, length, ◌++◌, ◌∷◌, [], map, take, drop, sum_by, IfOk, IfSome, IfNone, OnOk};
 ghost use Rattle.std.specs.List.{range_with_len};
 ghost use Rattle.flac_definitions.specs.ResidualSpelling.{folded_value};
 ghost use Rattle.flac_definitions.specs.Plans.{fits, finest, best_partition, best_parameter, cost, part_of, part_bits, plan_bits, IsPlan, IsUsable};
@@ -142,7 +142,8 @@ fn searched(
     requires order { order < block }
     requires count { length zs.now + order ≡ block }
     requires most { most ≤ 15 }
-    ensures plan { IfOk result (IsPlan block order zs.now (best_partition block order most zs.now)) }
+    ensures plan { IfOk result
+        (IsPlan block order zs.now (best_partition block order most zs.now)) }
     ensures usable { IfOk result (IsUsable block order) }
     ensures small { IfOk result (λ plan. plan.bits < 2 ^ 63) }
 {
@@ -216,7 +217,8 @@ fn window(zs: &[u32], size: usize, order: usize, parts: usize) -> Window
     requires size { size ≤ 65535 }
     requires order { order < size }
     requires count { parts * size ≡ length zs.now + order }
-    ensures fits { (j : ℕ) → j < parts → IsWindow result.low result.high (part_of size order zs.now j) }
+    ensures fits { (j : ℕ) → j < parts
+        → IsWindow result.low result.high (part_of size order zs.now j) }
     ensures order { result.low ≤ result.high }
     ensures most { result.high ≤ 14 }
 {
@@ -329,7 +331,8 @@ fn push_pair(
     requires width { low + width ≤ 15 }
     requires sums { sums.now ≡ table low width size order zs.now (2 * parts) }
     requires within { j < parts }
-    ensures { OnOk result (out.new.items ≡ out.old.items ++ row low width (part_of (2 * size) order zs.now j)) }
+    ensures { OnOk result (out.new.items
+        ≡ out.old.items ++ row low width (part_of (2 * size) order zs.now j)) }
 {
     let left = part(zs, size, order, 2 * j);
     let right = part(zs, size, order, 2 * j + 1);
@@ -362,20 +365,24 @@ fn level(
     requires order { order < size }
     requires count { parts * size ≡ length zs.now + order }
     requires few { parts ≤ 32768 }
-    requires window { (j : ℕ) → j < parts → IsWindow window.low window.high (part_of size order zs.now j) }
+    requires window { (j : ℕ) → j < parts
+        → IsWindow window.low window.high (part_of size order zs.now j) }
     requires rising { window.low ≤ window.high }
     requires most { window.high ≤ 14 }
-    requires sums { sums.now ≡ table window.low (window.high - window.low + 1) size order zs.now parts }
+    requires sums { sums.now
+        ≡ table window.low (window.high - window.low + 1) size order zs.now parts }
     ensures partition { IfOk result (λ plan. plan.partition ≡ partition) }
-    ensures parameters { IfOk result (λ plan. plan.parameters.items ≡ map (λ j. best_parameter (part_of size order zs.now j)) (range_with_len 0 parts)) }
-    ensures bits { IfOk result (λ plan. plan.bits ≡ 6 + sum_by (λ j. part_bits (part_of size order zs.now j)) (range_with_len 0 parts)) }
+    ensures parameters { IfOk result (λ plan. plan.parameters.items
+        ≡ map (λ j. best_parameter (part_of size order zs.now j)) (range_with_len 0 parts)) }
+    ensures bits { IfOk result (λ plan. plan.bits
+        ≡ 6 + sum_by (λ j. part_bits (part_of size order zs.now j)) (range_with_len 0 parts)) }
     ensures small { IfOk result (λ plan. plan.bits < 2 ^ 63) }
 {
     let mut parameters = Vec::new(alloc);
     let mut bits = 6u64;
     for j in 0..parts {
         let best = best_at(zs, sums, size, order, parts, window, j);
-        parameters.extend_from_slice(&[best.0 as u8])?;
+        push_parameter(best.0 as u8, &mut parameters)?;
         bits += 4 + best.1;
     }
     Ok(RicePlan {
@@ -383,6 +390,17 @@ fn level(
         parameters,
         bits,
     })
+}
+
+/// Appends a parameter.
+#[inline]
+fn push_parameter(parameter: u8, out: &mut Vec<u8>) -> Result<(), NoMemory>
+    ensures { OnOk result (out.new.items ≡ out.old.items ++ parameter ∷ []) }
+{
+    match out.push(parameter) {
+        Ok(()) => Ok(()),
+        Err(_) => Err(NoMemory),
+    }
 }
 
 /// The best parameter of one of the parts, and the bits with it.
@@ -398,14 +416,17 @@ fn best_at(
     requires size { size ≤ 65535 }
     requires order { order < size }
     requires count { parts * size ≡ length zs.now + order }
-    requires window { (j : ℕ) → j < parts → IsWindow window.low window.high (part_of size order zs.now j) }
+    requires window { (j : ℕ) → j < parts
+        → IsWindow window.low window.high (part_of size order zs.now j) }
     requires rising { window.low ≤ window.high }
     requires most { window.high ≤ 14 }
-    requires sums { sums.now ≡ table window.low (window.high - window.low + 1) size order zs.now parts }
+    requires sums { sums.now
+        ≡ table window.low (window.high - window.low + 1) size order zs.now parts }
     requires within { j < parts }
     ensures best { result.0 ≡ best_parameter (part_of size order zs.now j) }
     ensures small { result.0 ≤ 14 }
-    ensures bits { result.1 ≡ cost (best_parameter (part_of size order zs.now j)) (part_of size order zs.now j) }
+    ensures bits { result.1
+        ≡ cost (best_parameter (part_of size order zs.now j)) (part_of size order zs.now j) }
     ensures bound { result.1 ≤ 65535 * (2 ^ 32 + 15) }
 {
     let width = (window.high - window.low + 1) as usize;

@@ -1,8 +1,9 @@
 // Residuals, written.
-ghost use Rattle.std.specs.Prelude.{◌≡◌, ◌<◌, ◌≤◌, ◌+◌, ◌-◌, ◌*◌, ◌/◌, ◌%◌, ◌^◌, ◌++◌, ℕ, true, length, map, take, drop, slice_index, OnOk, OnErr};
+ghost use Rattle.std.specs.Prelude.{◌≡◌, ◌<◌, ◌≤◌, ◌+◌, ◌-◌, ◌*◌, ◌/◌, ◌%◌, ◌^◌, ◌++◌, ℕ, true, length, map, take, drop, slice_index, OnOk, OnErr, IfOk};
 ghost use Rattle.flac_definitions.specs.Bits.{bits_of};
 ghost use Rattle.flac_definitions.specs.ResidualSpelling.{folded_value};
 ghost use Rattle.flac_write.specs.Writer.{IsBegun};
+ghost use Rattle.flac_plans.specs.Held.{IsHeld, IsHeldWord};
 ghost use Rattle.flac_definitions.specs.Plans.{IsUsable, part_of};
 ghost use Rattle.flac_definitions.specs.ResidualWriting.{rice_bits, part_spelled, residual_bits};
 
@@ -53,6 +54,13 @@ fn write_head(w: &mut BitWriter, partition: u32) -> Result<(), NoMemory>
     w.put(4, partition as u64)
 }
 
+/// Bits that are not written yet, fewer than a word: a number of so many bits.
+#[derive(Clone, Copy)]
+struct Held {
+    word: u64,
+    count: u32,
+}
+
 /// Appends a part.
 fn write_part(w: &mut BitWriter, values: &[i32], k: u32) -> Result<(), NoMemory>
     requires { k ≤ 14 }
@@ -60,27 +68,76 @@ fn write_part(w: &mut BitWriter, values: &[i32], k: u32) -> Result<(), NoMemory>
     ensures err { OnErr result
         (IsBegun w.old (part_spelled k (map folded_value values.now)) w.new) }
 {
-    w.put(4, k as u64)?;
+    let mut held = Held {
+        word: k as u64,
+        count: 4,
+    };
     for value in values {
-        put_value(w, k, folded_value(*value))?;
+        held = with_value(w, held, k, folded_value(*value))?;
     }
-    Ok(())
+    w.put(held.count, held.word)
 }
 
-/// Appends the code of a folded value.
+/// Holds the code of a folded value too, and writes what was held before it where both are not held.
 #[inline]
-fn put_value(w: &mut BitWriter, k: u32, z: u32) -> Result<(), NoMemory>
+fn with_value(w: &mut BitWriter, held: Held, k: u32, z: u32) -> Result<Held, NoMemory>
+    requires k { k ≤ 14 }
+    requires held { IsHeldWord held }
+    ensures ok { IfOk result
+        (IsHeld w.old (bits_of held.count held.word ++ rice_bits k z) w.new) }
+    ensures word { IfOk result IsHeldWord }
+    ensures err { OnErr result
+        (IsBegun w.old (bits_of held.count held.word ++ rice_bits k z) w.new) }
+{
+    let zeros = z >> k;
+    let count = zeros as u64 + (k + 1) as u64;
+    let room = (63 - held.count) as u64;
+    if count <= room {
+        let tail = tail_of(k, z);
+        let both = joined(held, count as u32, tail);
+        return Ok(both);
+    }
+    w.put(held.count, held.word)?;
+    put_value(w, k, z)
+}
+
+/// The same with a number of so many bits more.
+#[inline]
+fn joined(held: Held, count: u32, value: u64) -> Held
+    requires held { IsHeldWord held }
+    requires room { held.count + count ≤ 63 }
+    requires value { value < 2 ^ count }
+    ensures bits { bits_of result.count result.word
+        ≡ bits_of held.count held.word ++ bits_of count value }
+    ensures word { IsHeldWord result }
+{
+    Held {
+        word: (held.word << count) | value,
+        count: held.count + count,
+    }
+}
+
+/// Holds the code of a folded value, where nothing is held.
+#[inline(never)]
+fn put_value(w: &mut BitWriter, k: u32, z: u32) -> Result<Held, NoMemory>
     requires { k ≤ 14 }
-    ensures ok { OnOk result (w.new ≡ w.old ++ rice_bits k z) }
+    ensures ok { IfOk result (IsHeld w.old (rice_bits k z) w.new) }
+    ensures word { IfOk result IsHeldWord }
     ensures err { OnErr result (IsBegun w.old (rice_bits k z) w.new) }
 {
     let zeros = z >> k;
     let tail = tail_of(k, z);
     if zeros <= 48 {
-        return w.put(zeros + k + 1, tail);
+        return Ok(Held {
+            word: tail,
+            count: zeros + k + 1,
+        });
     }
     put_zeros(w, zeros)?;
-    w.put(k + 1, tail)
+    Ok(Held {
+        word: tail,
+        count: k + 1,
+    })
 }
 
 /// A 1 and the low bits.

@@ -278,7 +278,8 @@ pub fn push_joined(
     requires same { length right_sums.now ≡ length left_sums.now }
     requires left_row { left_sums.now ≡ row low (length left_sums.now) left.now }
     requires right_row { right_sums.now ≡ row low (length left_sums.now) right.now }
-    ensures { OnOk result (out.new.items ≡ out.old.items ++ row low (length left_sums.now) (left.now ++ right.now)) }
+    ensures { OnOk result (out.new.items
+        ≡ out.old.items ++ row low (length left_sums.now) (left.now ++ right.now)) }
 {
     for c in 0..left_sums.len() {
         let sum = sum_at(left, right, left_sums, right_sums, low, c);

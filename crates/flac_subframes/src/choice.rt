@@ -280,7 +280,8 @@ fn with_earlier(
     requires most { most ≤ 6 }
     requires order { order ≤ 4 }
     requires small { AreWithin (2 ^ 25) samples.now }
-    requires least { least ≤ candidate_bits depth samples.now (best_of_order most samples.now order) }
+    requires least { least
+        ≤ candidate_bits depth samples.now (best_of_order most samples.now order) }
     requires behind { IsChoice depth samples.now behind.candidate behind }
     ensures { IfOk result (IsChoice depth samples.now (shorter (candidate_bits depth samples.now)
         (best_of_order most samples.now order) behind.candidate)) }
