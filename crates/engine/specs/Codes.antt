@@ -5,7 +5,7 @@ use Rattle.wc_base.specs.declared.error.DomError.TheVariants as dom
 use Rattle.wc_base.specs.declared.media.SampleFormat.{SampleFormat}
 use Rattle.wc_base.specs.declared.media.SampleFormat.TheVariants as format
 use Rattle.codec_model.specs.declared.entry.CodecState.{CodecState}
-use Rattle.codec_model.specs.declared.entry.CodecState.TheVariants.{Unconfigured, Configured, Closed}
+use Rattle.codec_model.specs.declared.entry.CodecState.TheVariants as phase
 use Rattle.codec_model.specs.declared.entry.TurnWord.{TurnWord}
 use Rattle.codec_model.specs.declared.entry.TurnWord.TheVariants as turn
 
@@ -56,9 +56,9 @@ status_of None = done
 status_of (Some error) = refused
 
 abbrev pub phase_code : CodecState → ℕ
-phase_code Unconfigured = 0
-phase_code Configured = 1
-phase_code Closed = 2
+phase_code phase.Unconfigured = 0
+phase_code phase.Configured = 1
+phase_code phase.Closed = 2
 
 abbrev pub format_code : SampleFormat → ℕ
 format_code format.U8 = 0

@@ -1,22 +1,27 @@
 -- The steps of a decoder that C drives.
-use Rattle.std.specs.Prelude.{ℕ, ◌≡◌, ◌==◌, ◌+◌, ◌^◌, ◌≤◌, ◌⊎◌, Bool, true, false, not, List, [], ◌∷◌, ◌++◌, length, Option, Some, None, IfSome, IfNone, IsSomeAnd, slice_get, if◌then◌else◌}
+use Rattle.std.specs.Prelude.{ℕ, ◌≡◌, ◌==◌, ◌+◌, ◌^◌, ◌≤◌, ◌⊎◌, Bool, true, false, not}
+use Rattle.std.specs.Prelude.{List, [], ◌∷◌, ◌++◌, length, slice_get, if◌then◌else◌}
+use Rattle.std.specs.Prelude.{Option, Some, None, IfSome, IfNone, IsSomeAnd}
 use Rattle.std.specs.Str.{IsUtf8}
 use Rattle.wc_base.specs.declared.who.Who.{Who}
 use Rattle.wc_config.specs.declared.kind.Kind.TheVariants as kind
 use Rattle.wc_config.specs.declared.config.Config.{Config}
 use Rattle.wc_config.specs.declared.config.Config.TheVariants as config
+use Rattle.wc_chunk.specs.declared.chunk.Chunk.{Chunk}
 use Rattle.codec_model.specs.declared.entry.Call.{Call}
 use Rattle.codec_model.specs.declared.entry.Call.TheVariants as call
 use Rattle.codec_model.specs.declared.entry.Entry.{Entry}
 use Rattle.codec_model.specs.declared.entry.Entry.TheVariants as entry
 use Rattle.codec_model.specs.declared.entry.Outcome.{Outcome}
+use Rattle.codec_model.specs.declared.entry.Outcome.TheVariants as outcomes
 use Rattle.codec_model.specs.declared.entry.Showing.{Showing}
-use Rattle.codec_model.specs.Control.{start_item, opening_control}
-use Rattle.codec_model.specs.Replay.{State, call_error}
+use Rattle.codec_model.specs.declared.entry.Showing.TheVariants as showings
+use Rattle.codec_model.specs.Control.{start_item, opening_control, after_done}
+use Rattle.codec_model.specs.Replay.{State, call_error, sends}
 use Rattle.codec_model.specs.Shown.{shown_of, exception_of, ends_of}
 use Rattle.codec_live.specs.Job.{JobValue, DoneValue, IsJobOf, IsEndOf, outcome_of}
-use Rattle.codec_live.specs.Live.{Live, StandsAfter, GoesFrom, GoesOn, state_after, nothing_shown, is_at_work}
-use Rattle.wc_chunk.specs.declared.chunk.Chunk.{Chunk}
+use Rattle.codec_live.specs.Live.{Live, StandsAfter, GoesFrom, GoesOn, state_after}
+use Rattle.codec_live.specs.Live.{nothing_shown, is_at_work, kept_box}
 use Rattle.engine.specs.declared.decoder.AudioDecoder.{AudioDecoder as Decoder}
 use Rattle.engine.specs.declared.work.DecoderWork.{DecoderWork as Work}
 use Rattle.engine.specs.declared.answers.ChunkHead.{ChunkHead}
@@ -26,11 +31,15 @@ use Rattle.engine.specs.declared.answers.Look.{Look}
 use Rattle.engine.specs.declared.answers.Output.{Output}
 use Rattle.engine.specs.declared.answers.Settled.{Settled}
 use Rattle.engine.specs.Told.{Told, OutputTold, settled_of}
-use Rattle.engine.specs.Codes.{done, refused, no_memory, invalid, idle, not_open, used_up, exception_code, status_of, phase_code}
+use Rattle.engine.specs.Told.{no_reply, no_turn, no_output, unsettled, no_look}
+use Rattle.engine.specs.Codes.{done, refused, no_memory, invalid, idle, not_open, used_up}
+use Rattle.engine.specs.Codes.{exception_code, status_of, phase_code}
 
 -- the entry's place is the last one that an entry can have
 abbrev pub IsUsedUp : Live → Type 0
 IsUsedUp l = 2 ^ 64 ≤ l.control.place + 2
+
+-- ---- calls
 
 -- the call is an entry, with its exception if it has one; what it shows is kept
 pub record MadeCall (x : Call) (old new : Live) (kept : Showing) (r : Reply) : Type 0 where
@@ -40,17 +49,18 @@ pub record MadeCall (x : Call) (old new : Live) (kept : Showing) (r : Reply) : T
   pub place_is : r.place ≡ old.control.place
   pub settled_are : r.settled ≡ length (ends_of (shown_of kept).events)
 
--- a call of a decoder that is open
+-- A call of a decoder that is open. Only one that sends a message may want memory.
 pub record Called (x : Call) (old new : Live) (before kept : Showing) (r : Reply) : Type 0 where
   pub made : r.status ≤ refused → MadeCall x old new kept r
-  pub stays : no_memory ≤ r.status → (new ≡ old) × (kept ≡ before)
+  pub stays : no_memory ≤ r.status → (new ≡ old) × (kept ≡ before) × (r ≡ no_reply r.status)
+  pub memory : r.status ≡ no_memory → sends x ≡ true
   pub ended : r.status ≡ used_up → IsUsedUp old
   pub status : (r.status ≤ refused) ⊎ ((r.status ≡ no_memory) ⊎ (r.status ≡ used_up))
 
 -- of a decoder that has a codec, or says why it has none
 abbrev pub CallsIt : Call → Option Live → Option Live → Showing → Showing → ℕ → Reply → Type 0
 CallsIt x (Some old) (Some new) before kept status r = Called x old new before kept r
-CallsIt x None None before kept status r = (r.status ≡ status) × (kept ≡ before)
+CallsIt x None None before kept status r = (r ≡ no_reply status) × (kept ≡ before)
 CallsIt x _ _ before kept status r = ⊥
 
 -- the word that tells an open decoder from other bytes: "zemirako" in ASCII
@@ -64,32 +74,53 @@ is_open d = d.canary == canary
 abbrev pub IfOpen : Decoder → Type 0 → Type 0 → Type 0
 IfOpen d P Q = (is_open d ≡ true → P) × (is_open d ≡ false → Q)
 
+-- a call of a decoder that is open
+abbrev pub CallsOpen : Call → Decoder → Decoder → Reply → Type 0
+CallsOpen x old new r =
+    CallsIt x old.core new.core old.showing new.showing old.status r
+    × (new.canary ≡ old.canary)
+
 -- a call: one of a decoder that is not open is told so, and does nothing
 abbrev pub Calls : Call → Decoder → Decoder → Reply → Type 0
-Calls x old new r = IfOpen old (CallsIt x old.core new.core old.showing new.showing old.status r × (new.canary ≡ old.canary)) ((r.status ≡ not_open) × (new ≡ old))
+Calls x old new r = IfOpen old (CallsOpen x old new r) ((r ≡ no_reply not_open) × (new ≡ old))
 
 -- the config of these parts; a codec string that is no UTF-8 breaks a rule of WebIDL
-abbrev pub IsConfig : (rate channels : ℕ) → (codec : List ℕ) → (description : Option (List ℕ)) → Config → Type 0
-IsConfig rate channels codec description (config.AudioDecoder c) = c ≡ record { codec = codec; rate = rate; channels = channels; description = description }
+abbrev pub IsConfig : (rate channels : ℕ) → List ℕ → Option (List ℕ) → Config → Type 0
+IsConfig rate channels codec description (config.AudioDecoder c) =
+    c ≡ record { codec = codec; rate = rate; channels = channels; description = description }
 IsConfig rate channels codec description config.Bad = IsUtf8 codec → ⊥
 IsConfig rate channels codec description _ = ⊥
 
--- a configure with the config of these parts, or memory was wanted for it
-abbrev pub Configures : (rate channels : ℕ) → (codec : List ℕ) → (description : Option (List ℕ)) → Decoder → Decoder → Reply → Type 0
-Configures rate channels codec description old new r = ((r.status ≡ no_memory) × (new ≡ old)) ⊎ ((config : Config) × IsConfig rate channels codec description config × Calls (call.Configure config) old new r)
+-- memory was wanted for the argument of a call, and nothing has changed
+abbrev pub WantsMemory : Decoder → Decoder → Reply → Type 0
+WantsMemory old new r = (r ≡ no_reply no_memory) × (new ≡ old)
+
+-- a configure with the config of these parts: rate, channels, codec string, description
+abbrev pub Configures :
+    (rate channels : ℕ) → List ℕ → Option (List ℕ) → Decoder → Decoder → Reply → Type 0
+Configures rate channels codec description old new r =
+    WantsMemory old new r
+    ⊎ ((c : Config) × IsConfig rate channels codec description c
+    × Calls (call.Configure c) old new r)
 
 abbrev pub if_given : {X : Type 0} → ℕ → X → Option X
 if_given flag x = if flag == 0 then None else Some x
 
 -- the chunk of these parts
 abbrev pub chunk_of : ChunkHead → List ℕ → Chunk
-chunk_of head bytes = record { key = not (head.key == 0); timestamp = head.timestamp; duration = if_given head.has_duration head.duration; bytes = bytes }
+chunk_of head bytes = record {
+  key = not (head.key == 0);
+  timestamp = head.timestamp;
+  duration = if_given head.has_duration head.duration;
+  bytes = bytes;
+}
 
--- a decode of the chunk of these parts, or memory was wanted for it
+-- a decode of the chunk of these parts
 abbrev pub Decodes : ChunkHead → List ℕ → Decoder → Decoder → Reply → Type 0
-Decodes head bytes old new r = ((r.status ≡ no_memory) × (new ≡ old)) ⊎ Calls (call.Decode (chunk_of head bytes)) old new r
+Decodes head bytes old new r =
+    WantsMemory old new r ⊎ Calls (call.Decode (chunk_of head bytes)) old new r
 
--- ---- turns and reclaims
+-- ---- turns
 
 -- the front event task ran; what it shows is kept
 pub record MadeTurn (old new : Live) (kept : Showing) (t : Turn) : Type 0 where
@@ -99,30 +130,43 @@ pub record MadeTurn (old new : Live) (kept : Showing) (t : Turn) : Type 0 where
 
 pub record Turned (old new : Live) (before kept : Showing) (t : Turn) : Type 0 where
   pub made : t.status ≡ done → MadeTurn old new kept t
-  pub stays : idle ≤ t.status → (new ≡ old) × (kept ≡ before)
+  pub stays : idle ≤ t.status → (new ≡ old) × (kept ≡ before) × (t ≡ no_turn t.status)
   pub rests : t.status ≡ idle → old.control.tasks ≡ []
   pub ended : t.status ≡ used_up → IsUsedUp old
   pub status : (t.status ≡ done) ⊎ ((t.status ≡ idle) ⊎ (t.status ≡ used_up))
 
 abbrev pub TurnsIt : Option Live → Option Live → Showing → Showing → ℕ → Turn → Type 0
 TurnsIt (Some old) (Some new) before kept status t = Turned old new before kept t
-TurnsIt None None before kept status t = (t.status ≡ status) × (kept ≡ before)
+TurnsIt None None before kept status t = (t ≡ no_turn status) × (kept ≡ before)
 TurnsIt _ _ before kept status t = ⊥
 
+abbrev pub TurnsOpen : Decoder → Decoder → Turn → Type 0
+TurnsOpen old new t =
+    TurnsIt old.core new.core old.showing new.showing old.status t × (new.canary ≡ old.canary)
+
 abbrev pub Turns : Decoder → Decoder → Turn → Type 0
-Turns old new t = IfOpen old (TurnsIt old.core new.core old.showing new.showing old.status t × (new.canary ≡ old.canary)) ((t.status ≡ not_open) × (new ≡ old))
+Turns old new t = IfOpen old (TurnsOpen old new t) ((t ≡ no_turn not_open) × (new ≡ old))
 
 -- ---- work
+
+-- the end is not want of a coder: a decoder makes the coders that its items need
+abbrev pub IsServed : Outcome → Type 0
+IsServed (outcomes.NoSlot entry) = ⊥
+IsServed _ = Unit {0}
 
 -- the front item began, and ended at this moment as the codec's definition says
 pub record WorkedFrom (history : List Entry) (moment : ℕ) (new : Live) : Type 0 where
   pub epoch : ℕ
   pub number : ℕ
   pub outcome : Outcome
-  pub stands : StandsAfter ((history ++ entry.Start epoch number ∷ []) ++ entry.Done epoch number moment outcome ∷ []) new
+  pub stands : StandsAfter
+      ((history ++ entry.Start epoch number ∷ []) ++ entry.Done epoch number moment outcome ∷ [])
+      new
+  pub served : IsServed outcome
 
 pub record Worked (moment : ℕ) (old new : Live) (answer : ℕ) : Type 0 where
-  pub made : answer ≡ done → (history : List Entry) → StandsAfter history old → WorkedFrom history moment new
+  pub made : answer ≡ done → (history : List Entry) → StandsAfter history old
+      → WorkedFrom history moment new
   pub stays : idle ≤ answer → new ≡ old
   pub rests : answer ≡ idle → start_item old.control ≡ None
   pub ended : answer ≡ used_up → IsUsedUp old
@@ -133,15 +177,28 @@ WorksIt moment (Some old) (Some new) status answer = Worked moment old new answe
 WorksIt moment None None status answer = answer ≡ status
 WorksIt moment _ _ status answer = ⊥
 
+-- beside its codec nothing of the decoder changed
+abbrev pub KeepsRest : Decoder → Decoder → Type 0
+KeepsRest old new = (new.canary ≡ old.canary) × (new.showing ≡ old.showing)
+
+abbrev pub WorksOpen : ℕ → Decoder → Decoder → ℕ → Type 0
+WorksOpen moment old new answer =
+    WorksIt moment old.core new.core old.status answer × KeepsRest old new
+
 abbrev pub Works : ℕ → Decoder → Decoder → ℕ → Type 0
-Works moment old new answer = IfOpen old (WorksIt moment old.core new.core old.status answer × (new.canary ≡ old.canary) × (new.showing ≡ old.showing)) ((answer ≡ not_open) × (new ≡ old))
+Works moment old new answer =
+    IfOpen old (WorksOpen moment old new answer) ((answer ≡ not_open) × (new ≡ old))
 
 -- ---- work that leaves its decoder
+
+-- after this history the entry of the start is legal, and this is the job of the running item
+abbrev pub IsStarted : List Entry → Live → JobValue → Type 0
+IsStarted h new j = IsJobOf (state_after new (h ++ entry.Start j.epoch j.number ∷ [])) j
 
 -- the front item began, and this is its job; or none can begin
 pub record Started (old new : Live) (job : Option JobValue) : Type 0 where
   pub goes : IfSome job (λ j. GoesOn old new (entry.Start j.epoch j.number) nothing_shown)
-  pub is_job : IfSome job (λ j. (h : List Entry) → StandsAfter h old → IsJobOf (state_after new (h ++ entry.Start j.epoch j.number ∷ [])) j)
+  pub is_job : IfSome job (λ j. (h : List Entry) → StandsAfter h old → IsStarted h new j)
   pub stays : IfNone job (new ≡ old)
   pub rests : IfNone job ((start_item old.control ≡ None) ⊎ IsUsedUp old)
 
@@ -150,8 +207,11 @@ StartsIt (Some old) (Some new) job = Started old new job
 StartsIt None None job = job ≡ None
 StartsIt _ _ job = ⊥
 
+abbrev pub StartsOpen : Decoder → Decoder → Option JobValue → Type 0
+StartsOpen old new job = StartsIt old.core new.core job × KeepsRest old new
+
 abbrev pub StartsJob : Decoder → Decoder → Option JobValue → Type 0
-StartsJob old new job = IfOpen old (StartsIt old.core new.core job × (new.canary ≡ old.canary) × (new.showing ≡ old.showing)) ((job ≡ None) × (new ≡ old))
+StartsJob old new job = IfOpen old (StartsOpen old new job) ((job ≡ None) × (new ≡ old))
 
 abbrev pub Starts : Decoder → Decoder → Work → Type 0
 Starts old new w = StartsJob old new w.job × (w.done ≡ None)
@@ -159,6 +219,7 @@ Starts old new w = StartsJob old new w.job × (w.done ≡ None)
 -- the end of a job is that of whichever running item the job is of
 pub record IsEndOfJob (j : JobValue) (d : DoneValue) : Type 0 where
   pub end : (s : State) → IsJobOf s j → IsEndOf s d
+  pub served : (s : State) → IsJobOf s j → IsServed (outcome_of d.ended)
   pub epoch : d.epoch ≡ j.epoch
   pub number : d.number ≡ j.number
 
@@ -170,9 +231,22 @@ PerformsJob (Some j) old new = (new.job ≡ None) × IsSomeAnd new.done (IsEndOf
 abbrev pub Performs : Work → Work → Type 0
 Performs old new = PerformsJob old.job old new
 
--- the item at work ended, for each history of whose item this is the end; the end of another is told
+-- the entry of an end
+abbrev pub done_entry : ℕ → DoneValue → Entry
+done_entry moment d = entry.Done d.epoch d.number moment (outcome_of d.ended)
+
+-- for each history of whose running item this is the end, the entry is legal
+abbrev pub EndsFrom : ℕ → DoneValue → Live → Live → Type 0
+EndsFrom moment d old new = (h : List Entry) → StandsAfter h old → IsEndOf (state_after old h) d
+    → GoesFrom h old new (done_entry moment d) nothing_shown
+
+-- The item at work ended, where the end has its numbers; the end of another is told, and nothing
+-- has changed.
 pub record Returned (moment : ℕ) (d : DoneValue) (old new : Live) (answer : ℕ) : Type 0 where
-  pub made : answer ≡ done → (h : List Entry) → StandsAfter h old → IsEndOf (state_after old h) d → GoesFrom h old new (entry.Done d.epoch d.number moment (outcome_of d.ended)) nothing_shown
+  pub own : answer ≡ done → is_at_work old.control.running d.epoch d.number ≡ true
+  pub control_is : answer ≡ done → new.control ≡ after_done d.ended moment old.control
+  pub slot_is : answer ≡ done → new.slot ≡ kept_box (d.epoch == old.control.epoch) d.coder
+  pub made : answer ≡ done → EndsFrom moment d old new
   pub stays : refused ≤ answer → new ≡ old
   pub other : answer ≡ refused → is_at_work old.control.running d.epoch d.number ≡ false
   pub ended : answer ≡ used_up → IsUsedUp old
@@ -183,21 +257,25 @@ ReturnsIt moment d (Some old) (Some new) status answer = Returned moment d old n
 ReturnsIt moment d None None status answer = answer ≡ status
 ReturnsIt moment d _ _ status answer = ⊥
 
--- beside it nothing of the decoder changed
 abbrev pub ReturnsDone : ℕ → DoneValue → Decoder → Decoder → ℕ → Type 0
-ReturnsDone moment d old new answer = ReturnsIt moment d old.core new.core old.status answer × (new.canary ≡ old.canary) × (new.showing ≡ old.showing)
+ReturnsDone moment d old new answer =
+    ReturnsIt moment d old.core new.core old.status answer × KeepsRest old new
 
 -- a job that is there was done now
 abbrev pub ReturnsJob : ℕ → Option JobValue → Decoder → Decoder → ℕ → Type 0
 ReturnsJob moment None old new answer = (answer ≡ idle) × (new ≡ old)
-ReturnsJob moment (Some j) old new answer = (d : DoneValue) × IsEndOfJob j d × ReturnsDone moment d old new answer
+ReturnsJob moment (Some j) old new answer =
+    (d : DoneValue) × IsEndOfJob j d × ReturnsDone moment d old new answer
 
-abbrev pub ReturnsWork : ℕ → Option JobValue → Option DoneValue → Decoder → Decoder → ℕ → Type 0
+abbrev pub ReturnsWork :
+    ℕ → Option JobValue → Option DoneValue → Decoder → Decoder → ℕ → Type 0
 ReturnsWork moment job None old new answer = ReturnsJob moment job old new answer
 ReturnsWork moment job (Some d) old new answer = ReturnsDone moment d old new answer
 
 abbrev pub Returns : ℕ → Work → Decoder → Decoder → ℕ → Type 0
-Returns moment w old new answer = IfOpen old (ReturnsWork moment w.job w.done old new answer) ((answer ≡ not_open) × (new ≡ old))
+Returns moment w old new answer =
+    IfOpen old (ReturnsWork moment w.job w.done old new answer)
+    ((answer ≡ not_open) × (new ≡ old))
 
 -- ---- looks, and the two ends of a decoder
 
@@ -210,31 +288,62 @@ pub record LooksAt (c : Live) (l : Look) : Type 0 where
 
 abbrev pub LooksIt : Option Live → ℕ → Look → Type 0
 LooksIt (Some c) status l = LooksAt c l
-LooksIt None status l = l.status ≡ status
+LooksIt None status l = l ≡ no_look status
 
 abbrev pub Looks : Decoder → Look → Type 0
-Looks d l = IfOpen d (LooksIt d.core d.status l) (l.status ≡ not_open)
+Looks d l = IfOpen d (LooksIt d.core d.status l) (l ≡ no_look not_open)
 
--- A decoder that was opened: a codec with an empty history; or none, where the saturation is out of its range or memory was
+-- the numbers of coded items at which a decoder may be saturated (our choice)
+abbrev pub IsSaturation : ℕ → Type 0
+IsSaturation n = (1 ≤ n) × (n ≤ 64)
+
+-- an audio decoder that was opened, and not configured yet
+abbrev pub opened_live : ℕ → Live
+opened_live saturation = record {
+  control = opening_control (record { kind = kind.AudioDecoder; saturation = saturation });
+  slot = None;
+}
+
+pub record OpenedLive (saturation : ℕ) (c : Live) (status : ℕ) : Type 0 where
+  pub in_range : IsSaturation saturation
+  pub stands : StandsAfter [] c
+  pub is_opened : c ≡ opened_live saturation
+  pub status_is : status ≡ done
+
+-- A codec with an empty history; or none, where the saturation is out of its range or memory was
 -- wanted.
 abbrev pub OpenedCore : ℕ → Option Live → ℕ → Type 0
-OpenedCore saturation (Some c) status = StandsAfter [] c × (c ≡ record { control = opening_control (record { kind = kind.AudioDecoder; saturation = saturation }); slot = None })
-OpenedCore saturation None status = (status ≡ no_memory) ⊎ ((status ≡ invalid) × ((saturation ≡ 0) ⊎ (65 ≤ saturation)))
+OpenedCore saturation (Some c) status = OpenedLive saturation c status
+OpenedCore saturation None status =
+    (IsSaturation saturation × (status ≡ no_memory))
+    ⊎ (((saturation ≡ 0) ⊎ (65 ≤ saturation)) × (status ≡ invalid))
 
+-- a decoder that was opened
 pub record Opened (saturation : ℕ) (d : Decoder) : Type 0 where
   pub opened : is_open d ≡ true
   pub core_is : OpenedCore saturation d.core d.status
+  pub shows : d.showing ≡ showings.Nothing
+
+-- nothing that needs memory is left of a decoder
+abbrev pub IsEmpty : Decoder → Type 0
+IsEmpty d = (d.core ≡ None) × (d.showing ≡ showings.Nothing)
 
 -- a decoder that was ended is not open, and has no codec
 pub record Shut (old new : Decoder) (answer : ℕ) : Type 0 where
   pub shut : is_open new ≡ false
-  pub empty : is_open old ≡ true → (answer ≡ done) × (new.core ≡ None)
+  pub empty : is_open old ≡ true → (answer ≡ done) × IsEmpty new
   pub stays : is_open old ≡ false → (answer ≡ not_open) × (new ≡ old)
 
 -- ---- what the last step showed
 
 abbrev pub OutputOf : Decoder → ℕ → List ℕ → List ℕ → Output → Type 0
-OutputOf d number old new o = IfOpen d (OutputTold (shown_of d.showing) number old new o) ((o.status ≡ not_open) × (new ≡ old))
+OutputOf d number old new o =
+    IfOpen d (OutputTold (shown_of d.showing) number old new o)
+    ((o ≡ no_output not_open) × (new ≡ old))
+
+-- the end of a promise, by its number among those that the last step settled
+abbrev pub end_told : Decoder → ℕ → Settled
+end_told d number = settled_of (slice_get (ends_of (shown_of d.showing).events) number)
 
 abbrev pub SettledOf : Decoder → ℕ → Settled → Type 0
-SettledOf d number s = IfOpen d (s ≡ settled_of (slice_get (ends_of (shown_of d.showing).events) number)) (s.status ≡ not_open)
+SettledOf d number s = IfOpen d (s ≡ end_told d number) (s ≡ unsettled not_open)

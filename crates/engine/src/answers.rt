@@ -1,6 +1,7 @@
 // What calls answer, as C reads it.
 ghost use Rattle.std.specs.Prelude.{◌≡◌};
-ghost use Rattle.engine.specs.Codes.{error_code, exception_code, format_code, phase_code, status_of};
+ghost use Rattle.engine.specs.Codes.{error_code, exception_code, status_of};
+ghost use Rattle.engine.specs.Codes.{format_code, phase_code};
 
 use codec_model::CodecState;
 use wc_base::{DomError, SampleFormat};
@@ -31,7 +32,8 @@ pub struct AudioConfig {
     pub has_description: u32,
 }
 
-/// A chunk beside its bytes: of type `key` where `key` is not 0, with a duration where `has_duration` is not 0.
+/// A chunk beside its bytes: of type `key` where `key` is not 0, with a duration where
+/// `has_duration` is not 0.
 #[repr(C)]
 #[derive(Clone, Copy, Debug, PartialEq, Eq)]
 pub struct ChunkHead {
@@ -41,8 +43,8 @@ pub struct ChunkHead {
     pub duration: u64,
 }
 
-/// The answer to a call: the code of its exception, its entry's place, which is also a flush's promise, and how many
-/// promises it settled.
+/// The answer to a call: the code of its exception, its entry's place, which is also a flush's
+/// promise, and how many promises it settled.
 #[repr(C)]
 #[derive(Clone, Copy, Debug, PartialEq, Eq)]
 pub struct Reply {
@@ -52,8 +54,8 @@ pub struct Reply {
     pub settled: u64,
 }
 
-/// What a turn ran: the task, the error of one that closed the decoder, how many outputs it shows and how many promises it
-/// settled, and its entry's place.
+/// What a turn ran: the task, the error of one that closed the decoder, how many outputs it shows
+/// and how many promises it settled, and its entry's place.
 #[repr(C)]
 #[derive(Clone, Copy, Debug, PartialEq, Eq)]
 pub struct Turn {

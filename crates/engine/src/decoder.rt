@@ -3,7 +3,11 @@ ghost use Rattle.std.specs.Prelude.{◌≡◌, true};
 ghost use Rattle.codec_model.specs.declared.entry.Call.TheVariants as call;
 ghost use Rattle.codec_model.specs.Replay.{may_call};
 ghost use Rattle.codec_model.specs.Control.{Control};
-ghost use Rattle.engine.specs.Steps.{if_given, is_open, OpenedCore, Calls, CallsIt, Configures, Decodes, Works, WorksIt, Turns, TurnsIt, Starts, StartsIt, StartsJob, Returns, ReturnsIt, ReturnsJob, ReturnsWork, Looks, LooksIt, Opened, Shut, OutputOf, SettledOf};
+ghost use Rattle.engine.specs.Steps.{if_given, is_open, OpenedCore, Opened, Shut, Looks, LooksIt};
+ghost use Rattle.engine.specs.Steps.{Calls, CallsIt, Configures, Decodes, Turns, TurnsIt};
+ghost use Rattle.engine.specs.Steps.{Works, WorksIt, Starts, StartsIt, StartsJob};
+ghost use Rattle.engine.specs.Steps.{Returns, ReturnsIt, ReturnsJob, ReturnsWork};
+ghost use Rattle.engine.specs.Steps.{OutputOf, SettledOf};
 
 use crate::answers::{
     AudioConfig, ChunkHead, DONE, IDLE, INVALID, Look, NO_MEMORY, NOT_OPEN, Output, Reply, Settled,
@@ -24,7 +28,8 @@ use wc_base::NoMemory;
 // "zemirako" in ASCII: a word that tells an open decoder from other bytes.
 const CANARY: u64 = 0x7a65_6d69_7261_6b6f;
 
-/// An audio decoder: with no codec where it was not opened, or was ended, and then `status` says why.
+/// An audio decoder: with no codec where it was not opened, or was ended, and then `status` says
+/// why.
 #[derive(Drop)]
 pub struct AudioDecoder {
     pub canary: u64,
@@ -95,7 +100,8 @@ impl AudioDecoder {
 
     fn call_open(&mut self, call: &Call) -> Reply
         requires { (c : Control) → may_call call.now c ≡ true }
-        ensures it { CallsIt call.now self.old.core self.new.core self.old.showing self.new.showing self.old.status result }
+        ensures it { CallsIt call.now self.old.core self.new.core
+            self.old.showing self.new.showing self.old.status result }
         ensures canary { self.new.canary ≡ self.old.canary }
     {
         match &mut self.core {
@@ -117,7 +123,8 @@ impl AudioDecoder {
 
     /// A configure.
     pub fn configure(&mut self, config: &AudioConfig, codec: &[u8], description: &[u8]) -> Reply
-        ensures { Configures config.now.rate config.now.channels codec.now (if_given config.now.has_description description.now) self.old self.new result }
+        ensures { Configures config.now.rate config.now.channels codec.now
+            (if_given config.now.has_description description.now) self.old self.new result }
     {
         match config_of(self.alloc, config, codec, description) {
             Ok(config) => self.call(Call::Configure(config)),
@@ -190,7 +197,8 @@ impl AudioDecoder {
     }
 
     fn turn_open(&mut self) -> Turn
-        ensures it { TurnsIt self.old.core self.new.core self.old.showing self.new.showing self.old.status result }
+        ensures it { TurnsIt self.old.core self.new.core
+            self.old.showing self.new.showing self.old.status result }
         ensures canary { self.new.canary ≡ self.old.canary }
     {
         match &mut self.core {
@@ -267,9 +275,9 @@ impl AudioDecoder {
         }
     }
 
-    /// The item that was at work ends, at a moment in microseconds; where it was not performed, it is performed now. An
-    /// item that is not the decoder's own is refused, but for one of another decoder with the same numbers, of which
-    /// nothing is said.
+    /// The item that was at work ends, at a moment in microseconds; where it was not performed, it
+    /// is performed now. An item whose numbers are not those of the item at work is refused. One of
+    /// another decoder with the same numbers ends the item in its place.
     pub fn done(&mut self, work: DecoderWork, moment: u64) -> u32
         ensures { Returns moment work self.old self.new result }
     {

@@ -1,5 +1,5 @@
-//! An audio decoder with its coders, as a media runtime drives it: each call is one step of W3C WebCodecs, and what the
-//! last step showed is kept until the next one.
+//! An audio decoder with its coders, as a media runtime drives it: each call is one step of W3C
+//! WebCodecs, and what the last step showed is kept until the next one.
 #![tactic(auto)]
 
 mod answers;

@@ -2,6 +2,7 @@
 ghost use Rattle.std.specs.Prelude.{◌≡◌, ◌≤◌, ◌+◌, ◌^◌, ◌↔◌, IsTrue, true};
 ghost use Rattle.codec_model.specs.Replay.{may_call};
 ghost use Rattle.engine.specs.Steps.{IsUsedUp, Called, Turned, Worked, Started, Returned, LooksAt};
+ghost use Rattle.engine.specs.Told.{no_reply, no_turn, no_look};
 
 use crate::answers::{
     DONE, IDLE, Look, NO_MEMORY, REFUSED, Reply, Turn, USED_UP, exception_code, phase_code,
@@ -16,7 +17,7 @@ use std::alloc::Global;
 use wc_base::NoMemory;
 
 pub(crate) fn no_reply(status: u32) -> Reply
-    ensures { result ≡ record { status = status; error = 0; place = 0; settled = 0 } }
+    ensures { result ≡ no_reply status }
 {
     Reply {
         status,
@@ -27,8 +28,7 @@ pub(crate) fn no_reply(status: u32) -> Reply
 }
 
 pub(crate) fn no_turn(status: u32) -> Turn
-    ensures { result
-        ≡ record { status = status; word = 0; error = 0; outputs = 0; settled = 0; place = 0 } }
+    ensures { result ≡ no_turn status }
 {
     Turn {
         status,
@@ -103,8 +103,8 @@ pub(crate) fn work_core(alloc: Global, core: &mut LiveCore<AudioCoder>, moment: 
     }
     match core.start() {
         Some(job) => {
-            let done = end_of(alloc, job);
-            let _ = core.done(done, moment);
+            let end = end_of(alloc, job);
+            let _ = core.done(end, moment);
             DONE
         }
         None => IDLE,
@@ -153,7 +153,7 @@ pub(crate) fn look_core(core: &LiveCore<AudioCoder>) -> Look
 }
 
 pub(crate) fn no_look(status: u32) -> Look
-    ensures { result ≡ record { status = status; phase = 0; size = 0; entries = 0 } }
+    ensures { result ≡ no_look status }
 {
     Look {
         status,

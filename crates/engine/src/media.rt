@@ -17,7 +17,8 @@ pub(crate) fn config_of(
     description: &[u8],
 ) -> Result<Config, NoMemory>
     ensures { IfOk result
-        (IsConfig config.now.rate config.now.channels codec.now (if_given config.now.has_description description.now)) }
+        (IsConfig config.now.rate config.now.channels codec.now
+        (if_given config.now.has_description description.now)) }
 {
     let codec = match str::from_utf8(codec) {
         Ok(codec) => codec,

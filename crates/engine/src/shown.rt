@@ -1,8 +1,9 @@
 // What the last step showed: outputs, and ends of promises.
-ghost use Rattle.std.specs.Prelude.{◌≡◌, ◌∷◌, [], None, Some, length, pos, slice_get, option_map};
+ghost use Rattle.std.specs.Prelude.{◌≡◌, ◌∷◌, [], None, Some, length, slice_get, option_map};
 ghost use Rattle.codec_model.specs.Shown.{shown_of, units_in, ends_of, word_of_task};
-ghost use Rattle.engine.specs.Codes.{word_code, word_error};
-ghost use Rattle.engine.specs.Told.{task_outputs, resolved_by, Told, IsOutput, OfUnit, OutputTold, settled_of};
+ghost use Rattle.engine.specs.Codes.{done, word_code, word_error};
+ghost use Rattle.engine.specs.Told.{task_outputs, resolved_by, Told, IsOutput, OfUnit, OutputTold};
+ghost use Rattle.engine.specs.Told.{settled_of, unsettled, no_output};
 
 use crate::answers::{
     DONE, Output, REFUSED, Settled, TOO_SMALL, Turn, error_code, exception_code, format_code,
@@ -71,7 +72,8 @@ pub(crate) fn settled_count(showing: &Showing) -> u64
 
 fn rejected_at(promises: &[u64], error: DomError, number: usize) -> Option<PromiseEnd>
     ensures { result
-        ≡ option_map (λ p. record { promise = p; error = Some error }) (slice_get promises.now number) }
+        ≡ option_map (λ p. record { promise = p; error = Some error })
+        (slice_get promises.now number) }
 {
     let promise = promises.get(number)?;
     Some(PromiseEnd {
@@ -145,7 +147,7 @@ pub(crate) fn settled_at(showing: &Showing, number: u64) -> Settled
 }
 
 pub(crate) fn unsettled(status: u32) -> Settled
-    ensures { result ≡ record { status = status; error = 0; promise = 0 } }
+    ensures { result ≡ unsettled status }
 {
     Settled {
         status,
@@ -212,7 +214,7 @@ fn error_of(showing: &Showing) -> u32
 
 /// What a turn at a place showed.
 pub(crate) fn told(showing: &Showing, place: u64) -> Turn
-    ensures status { result.status ≡ 0 }
+    ensures status { result.status ≡ done }
     ensures place { result.place ≡ place }
     ensures told { Told (shown_of showing.now) result }
 {
@@ -248,8 +250,7 @@ fn put(samples: &Samples, room: &mut [u8]) -> Output
 }
 
 pub(crate) fn no_output(status: u32) -> Output
-    ensures { result
-        ≡ record { status = status; format = 0; rate = 0; channels = 0; frames = 0; timestamp = pos 0; size = 0 } }
+    ensures { result ≡ no_output status }
 {
     Output {
         status,
