@@ -1,0 +1,4 @@
+mod Counts
+mod Bags
+mod Walks
+mod Ledgers
