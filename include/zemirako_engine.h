@@ -1,0 +1,193 @@
+/* zemirako_engine.h: audio decoders of Zemirako's WebCodecs engine for C.
+ *
+ * A decoder lies in room of its owner. zemirako_audio_decoder_open puts one there, and
+ * zemirako_audio_decoder_end gives back all that it took of malloc. In between each call is one
+ * step of W3C WebCodecs (AudioDecoder): configure, decode, flush, reset, close; `work` begins the
+ * front work item, does it and ends it; `turn` runs the front event task. When work and turns
+ * happen is the runtime's choice. Each step that is made has a number, its place, from 0 on.
+ *
+ * A decoder keeps no history. It holds what is queued, and what the last step showed: its outputs
+ * and the ends of promises, until the next call or turn that is made.
+ *
+ * What the caller owes:
+ * - `at` is room of at least zemirako_audio_decoder_size() bytes, aligned to
+ *   zemirako_audio_decoder_align(). Only these calls touch its bytes from `open` to `end`. Where no
+ *   decoder was opened, or it was ended, each call but `open` says ZEMIRAKO_NOT_OPEN (`configure`
+ *   and `decode` may find no memory for their argument first), as long as the first eight bytes
+ *   there are not by chance those of an open one. The room of an open decoder is not opened again,
+ *   moved or freed before `end`.
+ * - One call at a time is made on a decoder. It may go to another thread between calls, where that
+ *   is ordered by a lock, by a thread's start or join, or by a sequentially consistent atomic.
+ *   Calls on different decoders may overlap.
+ * - A slice is a pointer, not null and aligned, and behind it a count: so many elements can be read
+ *   there, or written where it is not const; also where the count is 0. What is read was set
+ *   before. What may be written meets nothing else.
+ * - There is stack enough for the call.
+ * - malloc, realloc and free are of one allocator whose blocks are aligned as far as 16. No call is
+ *   made from a signal handler, nor from the child of a fork in a process with threads.
+ *
+ * What is handed in is copied; no call keeps a pointer. No proof covers the caller, this header, or
+ * malloc, realloc and free.
+ */
+#ifndef ZEMIRAKO_ENGINE_H
+#define ZEMIRAKO_ENGINE_H
+
+#include "zemirako.h"
+
+#ifdef __cplusplus
+extern "C" {
+#endif
+
+/* The version as a number, 65536 * major + 256 * minor + patch, and that of the library. */
+#define ZEMIRAKO_ENGINE_VERSION 0x000200u
+uint32_t zemirako_engine_version(void);
+
+/* Statuses, beside those of zemirako.h. ZEMIRAKO_REFUSED says that a call has an exception, which
+ * `error` tells, or that there is no such output, end or item. After ZEMIRAKO_NO_MEMORY nothing has
+ * changed; a decoder for which there was none when it was opened says it of each step. Only
+ * `configure`, `decode` and `flush` of an open decoder want memory. With a status that is neither
+ * ZEMIRAKO_DONE, ZEMIRAKO_REFUSED nor ZEMIRAKO_TOO_SMALL, the other members of an answer are 0. */
+#define ZEMIRAKO_IDLE 5u     /* no task, or no item that can begin: nothing has changed */
+#define ZEMIRAKO_NOT_OPEN 6u /* no decoder was opened there, or it was ended: nothing has changed */
+#define ZEMIRAKO_USED_UP 7u  /* the decoder made nearly 2^64 steps: nothing has changed */
+
+/* Exceptions: the names of DOMException, TypeError and RangeError; the last one is not of the
+ * standard. */
+enum { ZEMIRAKO_ABORT = 1, ZEMIRAKO_INVALID_STATE, ZEMIRAKO_NOT_SUPPORTED, ZEMIRAKO_ENCODING,
+       ZEMIRAKO_DATA, ZEMIRAKO_DATA_CLONE, ZEMIRAKO_QUOTA_EXCEEDED, ZEMIRAKO_TYPE, ZEMIRAKO_RANGE,
+       ZEMIRAKO_OUT_OF_MEMORY };
+
+/* What a turn ran. Outputs come with OUTPUT and FLUSHED, the promise of a flush is resolved with
+ * FLUSHED, the event `dequeue` is fired with DEQUEUE, and with CLOSE the error callback is called
+ * and each pending promise rejected. */
+enum { ZEMIRAKO_TURN_UNBLOCK = 1, ZEMIRAKO_TURN_PROCESS, ZEMIRAKO_TURN_DESATURATE,
+       ZEMIRAKO_TURN_OUTPUT, ZEMIRAKO_TURN_FLUSHED, ZEMIRAKO_TURN_DEQUEUE, ZEMIRAKO_TURN_CLOSE };
+
+/* The state of a decoder (CodecState). The formats of samples are those of zemirako.h. */
+enum { ZEMIRAKO_UNCONFIGURED, ZEMIRAKO_CONFIGURED, ZEMIRAKO_CLOSED };
+
+typedef struct zemirako_audio_decoder zemirako_audio_decoder;
+typedef struct zemirako_decoder_work zemirako_decoder_work;
+
+typedef struct { uint32_t rate, channels, has_description; } zemirako_audio_config;
+
+/* A chunk beside its bytes: a key chunk where `key` is not 0, with a duration where `has_duration`
+ * is not 0; times in microseconds. */
+typedef struct {
+    uint32_t key, has_duration;
+    int64_t timestamp;
+    uint64_t duration;
+} zemirako_chunk_head;
+
+typedef struct {
+    uint32_t status, error;
+    uint64_t place;   /* of the step; of a flush also the name of its promise */
+    uint64_t settled; /* so many promises were rejected, numbered from 0 */
+} zemirako_reply;
+
+typedef struct {
+    uint32_t status, word, error;
+    uint64_t outputs; /* so many outputs are shown, numbered from 0 */
+    uint64_t settled; /* so many promises were resolved or rejected, numbered from 0 */
+    uint64_t place;
+} zemirako_turn;
+
+typedef struct {
+    uint32_t status, format, rate, channels, frames;
+    int64_t timestamp; /* in microseconds */
+    uint64_t size;     /* in bytes, also where they do not fit the room */
+} zemirako_output;
+
+typedef struct {
+    uint32_t status, error; /* error 0: the promise was resolved */
+    uint64_t promise;
+} zemirako_settled;
+
+typedef struct { uint32_t status, phase; uint64_t queue_size, entries; } zemirako_look;
+
+size_t zemirako_audio_decoder_size(void);
+size_t zemirako_audio_decoder_align(void);
+
+/* `begin` is `open` without its answer. */
+void zemirako_audio_decoder_begin(zemirako_audio_decoder *at, uint32_t saturation);
+/* ZEMIRAKO_DONE or ZEMIRAKO_NOT_OPEN. */
+uint32_t zemirako_audio_decoder_end(zemirako_audio_decoder *at);
+
+/* The codec string in UTF-8, as "pcm-s16", "flac" (with a description) or "alaw". The description
+ * counts where has_description is not 0. */
+zemirako_reply zemirako_audio_decoder_configure(zemirako_audio_decoder *at,
+                                                const zemirako_audio_config *config,
+                                                const uint8_t *codec, size_t codec_count,
+                                                const uint8_t *description,
+                                                size_t description_count);
+zemirako_reply zemirako_audio_decoder_decode(zemirako_audio_decoder *at,
+                                             const zemirako_chunk_head *head,
+                                             const uint8_t *bytes, size_t bytes_count);
+zemirako_reply zemirako_audio_decoder_flush(zemirako_audio_decoder *at);
+zemirako_reply zemirako_audio_decoder_reset(zemirako_audio_decoder *at);
+zemirako_reply zemirako_audio_decoder_close(zemirako_audio_decoder *at);
+
+/* `moment` is a time in microseconds, at which the item ends. ZEMIRAKO_IDLE where no item is
+ * queued, one is at work, or the decoder is halted. Where the item wants memory and gets none, it
+ * ends with ZEMIRAKO_OUT_OF_MEMORY, which closes the decoder in a turn. */
+uint32_t zemirako_audio_decoder_work(zemirako_audio_decoder *at, uint64_t moment);
+/* ZEMIRAKO_IDLE where no task is queued. */
+zemirako_turn zemirako_audio_decoder_turn(zemirako_audio_decoder *at);
+
+/* Puts the bytes of an output of the last step at the front of `room`. Where they do not fit, or
+ * there is no such output, the room stays. */
+zemirako_output zemirako_audio_decoder_output(zemirako_audio_decoder *at, uint64_t number,
+                                              uint8_t *room, size_t room_count);
+/* The end of a promise that the last step settled. */
+zemirako_settled zemirako_audio_decoder_settled(zemirako_audio_decoder *at, uint64_t number);
+zemirako_look zemirako_audio_decoder_look(zemirako_audio_decoder *at);
+
+/* Work on another thread. `start` begins the front item, which leaves the decoder for room of its
+ * owner; `perform` does it with no decoder at hand, on any thread, while the owner goes on calling
+ * the decoder; `done` ends it and frees the room again. Where no item could begin, what leaves is
+ * empty: `perform` does nothing, and `done` answers ZEMIRAKO_IDLE and changes nothing. An item
+ * whose numbers are not those of the item at work is dropped with ZEMIRAKO_REFUSED.
+ *
+ * The caller owes, beside what is said above: `start` gets room where no item lies, of as many
+ * bytes and as aligned as the calls say. `done` gets the item that this very decoder has at work;
+ * where it was not performed, `done` performs it. An item that is dropped instead never ends, and
+ * then no other item of its decoder can begin. A decoder may be ended while an item is out, which
+ * zemirako_decoder_work_end then frees. */
+size_t zemirako_decoder_work_size(void);
+size_t zemirako_decoder_work_align(void);
+void zemirako_audio_decoder_start(zemirako_audio_decoder *at, zemirako_decoder_work *room);
+void zemirako_decoder_work_perform(zemirako_decoder_work *at);
+uint32_t zemirako_audio_decoder_done(zemirako_audio_decoder *at, zemirako_decoder_work *room,
+                                     uint64_t moment);
+void zemirako_decoder_work_end(zemirako_decoder_work *at);
+
+/* ---- What follows is not proved. */
+
+/* `saturation`, 1 to 64: so many coded items may be at work before messages wait. ZEMIRAKO_DONE,
+ * ZEMIRAKO_NO_MEMORY, or ZEMIRAKO_INVALID where the saturation is out of its range. It is ended
+ * also after another status than ZEMIRAKO_DONE. */
+static inline uint32_t zemirako_audio_decoder_open(zemirako_audio_decoder *at,
+                                                   uint32_t saturation) {
+    zemirako_audio_decoder_begin(at, saturation);
+    return zemirako_audio_decoder_look(at).status;
+}
+
+/* What a status says. */
+static inline const char *zemirako_status_text(uint32_t status) {
+    switch (status) {
+    case ZEMIRAKO_DONE: return "done";
+    case ZEMIRAKO_REFUSED: return "refused";
+    case ZEMIRAKO_NO_MEMORY: return "out of memory";
+    case ZEMIRAKO_TOO_SMALL: return "the room is too small";
+    case ZEMIRAKO_INVALID: return "an argument is out of its range";
+    case ZEMIRAKO_IDLE: return "there is nothing to do";
+    case ZEMIRAKO_NOT_OPEN: return "not open";
+    case ZEMIRAKO_USED_UP: return "no step has a number any more";
+    default: return "no status";
+    }
+}
+
+#ifdef __cplusplus
+}
+#endif
+#endif
