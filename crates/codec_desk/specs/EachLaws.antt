@@ -49,17 +49,6 @@ module _ {X A : Type 0} where
     each_same same n (x ∷ xs) [] h = absurd h
     each_same same n (x ∷ xs) (u ∷ us) h = (same n x u h.0, each_same same (suc n) xs us h.1)
 
-    -- each, where one has gone on
-    pub each_one : ((n : ℕ) (x : X) (u : A) → Q n x u → R x u u) → (n i : ℕ) (xs : List X) (us : List A) (x : X) (u v : A) → Pairs Q n xs us → slice_get xs i ≡ Some x → slice_get us i ≡ Some u → R x u v → Each R xs us (set us i v)
-    each_one same n i [] [] x u v h at there r = absurd cc
-    each_one same n i [] (w ∷ us) x u v h at there r = absurd h
-    each_one same n i (y ∷ xs) [] x u v h at there r = absurd h
-    each_one same n zero (y ∷ xs) (w ∷ us) x u v h at there r =
-        let e : x ≡ y = cc in
-        let f : u ≡ w = cc in
-        (subst (λ (z : X × A). R z.0 z.1 v) (λ i. (e i, f i)) r, each_same same (suc n) xs us h.1)
-    each_one same n (suc i) (y ∷ xs) (w ∷ us) x u v h at there r = (same n y w h.0, each_one same (suc n) i xs us x u v h.1 at there r)
-
     -- each behind one, with nothing done
     each_behind : (m : ℕ) → ((j : ℕ) (x : X) (u : A) → j ≢ m → Q j x u → R x u u) → (n : ℕ) → m < n → (xs : List X) (us : List A) → Pairs Q n xs us → Each R xs us us
     each_behind m same n more [] [] h = tt
@@ -78,6 +67,10 @@ module _ {X A : Type 0} where
         (subst (λ (z : X × A). R z.0 z.1 v) (λ i. (e i, f i)) r, each_behind m same (suc n) (omega (arith, is)) xs us h.1)
     each_other m same n (suc i) is (y ∷ xs) (w ∷ us) x u v h at there r =
         (same n y w (λ e. omega (arith, e, is)) h.0, each_other m same (suc n) i (omega (arith, is)) xs us x u v h.1 at there r)
+
+    -- each, where one has gone on
+    pub each_one : ((n : ℕ) (x : X) (u : A) → Q n x u → R x u u) → (n i : ℕ) (xs : List X) (us : List A) (x : X) (u v : A) → Pairs Q n xs us → slice_get xs i ≡ Some x → slice_get us i ≡ Some u → R x u v → Each R xs us (set us i v)
+    each_one same n i = each_other (n + i) (λ j y w other q. same j y w q) n i refl
 
   -- what an element was before
   pub each_back : (R : X → A → A → Type 0) (i : ℕ) (xs : List X) (us vs : List A) (x : X) (v : A) → Each R xs us vs → slice_get xs i ≡ Some x → slice_get vs i ≡ Some v → (u : A) × (slice_get us i ≡ Some u) × R x u v

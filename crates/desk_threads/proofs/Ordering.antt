@@ -22,7 +22,7 @@ use Rattle.codec_desk.specs.declared.desk.Seats.{Seats}
 use Rattle.codec_desk.specs.Desks.{SitsAt, InOrderSince, SitAt, Settled}
 use Rattle.codec_desk.specs.Each.{Pairs, Each}
 use Rattle.desk_threads.specs.Accounts.{EachSawNone, SawNone, EachByAll, AreAll}
-use Rattle.desk_threads.specs.AccountLaws.{left_dues, new_dues, left_made, new_made}
+use Rattle.desk_threads.specs.AccountLaws.{joined_view, left_dues, new_dues, left_made, new_made}
 use Rattle.desk_threads.specs.MadeLaws.{made_more, made_all}
 use Rattle.desk_threads.specs.Orders.{IsOrdered, IsWholeInOrder, InOrder, WholeInOrder}
 use Rattle.desk_threads.specs.Parts.{IsSplit, IsJoin, EachOfThree, AreSplit, AreTakenIn}
@@ -34,15 +34,6 @@ follows_front k x (p ∷ ps) b f = (f.0, follows_front k (track_by p.0 p.1 x) ps
 
 log_before : (k : ℕ) (o : Opening) (a more b : Log Event) → b ≡ a ++ more → IsLog k o b → IsLog k o a
 log_before k o a more b is legal = follows_front k (opening_track o) a more (subst (λ (l : Log Event). IsLog k o l) is legal)
-
--- a seat that took in another one
-joined_view : {S E : Type 0} (u v w : Seat (Option S) (View E)) → IsJoin u v w → AreJoined u.me.0 v.me.0 w.me.0
-joined_view {S} {E} u v w join = record {
-  numbers = ap (λ (m : Sitting S E). m.0.numbers) join.both.view;
-  one = join.both.continues_one;
-  other = join.both.continues_other;
-  apart = join.both.apart;
-}
 
 module _ {D X R : Type 0} (due : ℕ → Event → Track → List D) (asks : ℕ → ℕ → D → List R) (does : ℕ → ℕ → X → List R) where
   -- of the same entries, with the same made

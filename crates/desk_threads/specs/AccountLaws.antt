@@ -16,7 +16,7 @@ use Rattle.shared_codec.specs.Dues.{dues_by, slot_dues, media_dues}
 use Rattle.shared_codec.specs.DueLaws.{none_due}
 use Rattle.shared_codec.specs.Order.{made_by}
 use Rattle.shared_codec.specs.Shared.{Shared}
-use Rattle.shared_codec.specs.Sums.{dues_of, DuesAddUp}
+use Rattle.shared_codec.specs.Sums.{AreJoined, dues_of, DuesAddUp}
 use Rattle.codec_desk.specs.declared.desk.Desk.{Desk}
 use Rattle.codec_desk.specs.declared.desk.Seats.{Seats}
 use Rattle.codec_desk.specs.DeskLaws.{map_both}
@@ -120,6 +120,15 @@ all_codecs (e ∷ es) none =
 
 -- ---- seats
 
+-- a seat that took in another one
+pub joined_view : {S E : Type 0} (u v w : Seat (Option S) (View E)) → IsJoin u v w → AreJoined u.me.0 v.me.0 w.me.0
+joined_view {S} {E} u v w join = record {
+  numbers = ap (λ (m : Sitting S E). m.0.numbers) join.both.view;
+  one = join.both.continues_one;
+  other = join.both.continues_other;
+  apart = join.both.apart;
+}
+
 module _ {S : Type 0} {D : Type 0} (due : ℕ → Event → Track → List D) where
   -- what is left of a seat calls for what it called for, and a new seat for nothing
   pub left_dues : (s : Shared) (u v w : Seat (Option S) (View Event)) → IsSplit s.id u v w → dues_of due s.codec s.opening v.me.0 ≡ dues_of due s.codec s.opening u.me.0
@@ -132,8 +141,7 @@ module _ {S : Type 0} {D : Type 0} (due : ℕ → Event → Track → List D) wh
 
   pub both_dues : DuesAddUp due → (s : Shared) (u v w : Seat (Option S) (View Event)) → IsJoin u v w → SameBag (dues_of due s.codec s.opening w.me.0) (dues_of due s.codec s.opening u.me.0 ++ dues_of due s.codec s.opening v.me.0)
   both_dues add s u v w join =
-      add.joined s.codec s.opening u.me.0 v.me.0 w.me.0
-      (record { numbers = ap (λ (m : Sitting S Event). m.0.numbers) join.both.view; one = join.both.continues_one; other = join.both.continues_other; apart = join.both.apart })
+      add.joined s.codec s.opening u.me.0 v.me.0 w.me.0 (joined_view u v w join)
 
 module _ {S E : Type 0} where
   pub left_made : (id : TableId) (u v w : Seat (Option S) (View E)) → IsSplit id u v w → made_by v.me.0 ≡ made_by u.me.0

@@ -9,7 +9,9 @@
 ghost use Rattle.std.specs.Prelude.{◌≡◌};
 ghost use types.Logic.{sem};
 ghost use base.Fraction.{full_share};
+ghost use denote.Param.{layout};
 ghost use denote.RawPtr.{lies_at, room_at};
+ghost use prog.Memory.{align, capped, size};
 ghost use Rattle.engine.specs.contracts.decoder.AudioDecoder.{the_row};
 ghost use Rattle.engine.specs.declared.decoder.AudioDecoder.{AudioDecoder as Decoder};
 ghost use Rattle.engine.specs.contracts.work.DecoderWork.{the_row as work_row};
@@ -49,25 +51,33 @@ pub extern "C" fn zemirako_engine_version() -> u32
 
 /// How many bytes a decoder takes.
 #[unsafe(no_mangle)]
-pub extern "C" fn zemirako_audio_decoder_size() -> usize {
+pub extern "C" fn zemirako_audio_decoder_size() -> usize
+    ensures { result ≡ capped (size (layout the_row)) }
+{
     size_of::<AudioDecoder>()
 }
 
 /// To how many bytes a decoder is aligned.
 #[unsafe(no_mangle)]
-pub extern "C" fn zemirako_audio_decoder_align() -> usize {
+pub extern "C" fn zemirako_audio_decoder_align() -> usize
+    ensures { result ≡ align (layout the_row) }
+{
     align_of::<AudioDecoder>()
 }
 
 /// How many bytes a work item takes.
 #[unsafe(no_mangle)]
-pub extern "C" fn zemirako_decoder_work_size() -> usize {
+pub extern "C" fn zemirako_decoder_work_size() -> usize
+    ensures { result ≡ capped (size (layout work_row)) }
+{
     size_of::<DecoderWork>()
 }
 
 /// To how many bytes a work item is aligned.
 #[unsafe(no_mangle)]
-pub extern "C" fn zemirako_decoder_work_align() -> usize {
+pub extern "C" fn zemirako_decoder_work_align() -> usize
+    ensures { result ≡ align (layout work_row) }
+{
     align_of::<DecoderWork>()
 }
 

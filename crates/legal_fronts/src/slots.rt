@@ -11,8 +11,8 @@ use wc_config::CoderId;
 
 /// How many entries of the history of a registry stand before the first that is not legal after those before it; all of
 /// them where each is legal (our choice, as `is_legal_next` of `slot_registry` says it). `made` has the id of each coder
-/// that was handed in. It takes time in proportion to the history, and memory in proportion to the boxes. `NoMemory` comes
-/// from want of memory alone.
+/// that was handed in. It takes memory in proportion to the boxes, and for each entry time in proportion to the coders; an
+/// acquire also takes time by the square of the boxes that are out. `NoMemory` comes from want of memory alone.
 pub fn legal_slot_entries(
     alloc: Global,
     made: &[CoderId],
