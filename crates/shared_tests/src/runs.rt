@@ -8,7 +8,8 @@ ghost use Rattle.shared_tests.specs.Resting.{IsDesk, IsReady, AreLive, AreKept};
 ghost use Rattle.std.specs.Prelude.{◌≡◌, ◌≤◌, ◌+◌, ◌^◌, IfOk};
 
 use crate::desk::{MONO, configure, reset, work};
-use crate::parts::{Part, Seats, play_two};
+use crate::parts::{Part, Seats};
+use crate::plays::play_two;
 use bytes::Bytes;
 use codec_media::HoldingCore;
 use codec_model::{Kind, MediaShape};
