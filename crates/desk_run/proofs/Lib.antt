@@ -1,0 +1,4 @@
+mod Lists
+mod FirstSeats
+mod Closing
+mod Goings

@@ -1,0 +1,7 @@
+//! Tests of threads on a desk.
+#![tactic(auto)]
+
+mod coders;
+mod desks;
+#[cfg(test)]
+mod thread_tests;
