@@ -1,0 +1,19 @@
+use Rattle.std.proofs.Common.{length, sym, subst}
+use Rattle.std.specs.Prelude.{IfOk}
+use Rattle.script_types.specs.declared.steps.Step.{Step}
+use Rattle.media_variables.specs.Held.{seen_in}
+use Rattle.desk_callers.specs.Acts.{Did, NamesWithin}
+use Rattle.desk_callers.proofs.Asked.{no_media}
+use Rattle.desk_callers.proofs.callers.caller_step.Goals as goal
+
+pub step_on_media-requires-clause-names : goal.step_on_media-requires-clause-names
+step_on_media-requires-clause-names g c κs within = subst (NamesWithin (length c.args.desk.now.codecs.items)) c.in-Media.is c.requires.names
+
+pub returns-in-Media-clause-did : goal.returns-in-Media-clause-did
+returns-in-Media-clause-did g c =
+    let vs = seen_in c.args.variables.now in
+    let after = seen_in c.step_on_media.new.variables in
+    subst (λ (x : Step). IfOk c.step_on_media.result (Did c.args.script.now c.args.media.now c.args.desk.now c.args.who x c.args.results.now c.args.seats.now c.step_on_media.new.seats vs after)) (sym c.in-Media.is) c.step_on_media.ensures.did
+
+pub plain_step-requires-clause-plain : goal.plain_step-requires-clause-plain
+plain_step-requires-clause-plain g c κs within = no_media c.args.asked.now c.in_default.not-Media

@@ -1,0 +1,112 @@
+// All kinds of steps of callers.
+ghost use Rattle.std.specs.Prelude.{ℕ, ◌≡◌, ◌<◌, IfOk, OnErr, length};
+ghost use Rattle.shared_pool.specs.Refs.{IsPoolRef};
+ghost use Rattle.codec_desk.specs.Desks.{SitAt};
+ghost use Rattle.codec_desk.specs.Runs.{EachRunsNone};
+ghost use Rattle.script_types.specs.Names.{looked_at};
+ghost use Rattle.script_types.specs.declared.steps.Step.TheVariants as step;
+ghost use Rattle.media_variables.specs.Held.{AreOf, seen_in};
+ghost use Rattle.run_model.specs.Recorded.{steps_of};
+ghost use Rattle.desk_callers.specs.Acts.{AreOpened, StaySeats, Did, IsPromised, NamesWithin};
+
+use crate::encodes::encode_step;
+use crate::media::media_step;
+use crate::steps::plain_step;
+use crate::takes::take_step;
+use codec_desk::{Clock, Desk, Seats};
+use coder_api::Coder;
+use media_variables::Variables;
+use report_text::StepResult;
+use script_types::{MediaStep, ScriptData, Step};
+use std::alloc::Global;
+use std::sync::Wait;
+use wc_base::{List, NoMemory, Who};
+use wc_chunk::Chunk;
+
+// A step of a caller on media: of its own, or an encode or a take of a codec.
+fn step_on_media<C: Coder, R: Wait>(
+    rt: &R,
+    alloc: Global,
+    desk: &Desk<C>,
+    seats: &mut Seats<C>,
+    script: &ScriptData,
+    media: &[List<Chunk>],
+    steps: &[Step],
+    who: Who,
+    asked: &MediaStep,
+    results: &[StepResult],
+    variables: &mut Variables,
+) -> Result<StepResult, NoMemory>
+    requires sits { SitAt desk.now seats.old }
+    requires opened { AreOpened script.now desk.now.codecs.items }
+    requires steps { steps_of script.now who.caller ≡ steps.now }
+    requires names { NamesWithin (length desk.now.codecs.items) (step.Media asked.now) }
+    requires held { AreOf (IsPoolRef desk.now.pool) variables.old }
+    ensures sits { SitAt desk.now seats.new }
+    ensures runs { EachRunsNone desk.now.codecs.items seats.old.codecs.items
+        → EachRunsNone desk.now.codecs.items seats.new.codecs.items }
+    ensures stay { StaySeats desk.now seats.old seats.new }
+    ensures held { AreOf (IsPoolRef desk.now.pool) variables.new }
+    ensures did { let vs = seen_in variables.old in let after = seen_in variables.new in
+        let s = script.now in let m = media.now in let x = step.Media asked.now in
+        let did = Did s m desk.now who x results.now seats.old seats.new vs after in
+        IfOk result did }
+    ensures same { OnErr result (seen_in variables.new ≡ seen_in variables.old) }
+{
+    match asked {
+        MediaStep::Encode { on, content } => encode_step(
+            rt, desk, seats, script, media, who, *on, content, results, variables,
+        ),
+        MediaStep::Take { on, bind, kind } => take_step(
+            rt, desk, seats, script, media, who, *on, bind, *kind, results, variables,
+        ),
+        _ => media_step(
+            rt, alloc, desk, seats, script, media, steps, who, asked, results, variables,
+        ),
+    }
+}
+
+/// A step of a caller, and its result: a call of a codec, a look, a wait, a chunk that is made, or a step on media. `steps` has the
+/// caller's steps, `results` those of the steps before it, and `variables` what these left. Where memory is wanted the variables
+/// are as they were; a take may have been made.
+pub fn caller_step<C: Coder, K: Clock, R: Wait>(
+    rt: &R,
+    alloc: Global,
+    desk: &Desk<C>,
+    seats: &mut Seats<C>,
+    script: &ScriptData,
+    media: &[List<Chunk>],
+    steps: &[Step],
+    who: Who,
+    asked: &Step,
+    results: &[StepResult],
+    variables: &mut Variables,
+    clock: &mut K,
+) -> Result<StepResult, NoMemory>
+    requires sits { SitAt desk.now seats.old }
+    requires opened { AreOpened script.now desk.now.codecs.items }
+    requires steps { steps_of script.now who.caller ≡ steps.now }
+    requires names { NamesWithin (length desk.now.codecs.items) asked.now }
+    requires promised { let n = length desk.now.codecs.items in
+        IsPromised n results.now (looked_at asked.now) }
+    requires held { AreOf (IsPoolRef desk.now.pool) variables.old }
+    ensures sits { SitAt desk.now seats.new }
+    ensures runs { EachRunsNone desk.now.codecs.items seats.old.codecs.items
+        → EachRunsNone desk.now.codecs.items seats.new.codecs.items }
+    ensures stay { StaySeats desk.now seats.old seats.new }
+    ensures held { AreOf (IsPoolRef desk.now.pool) variables.new }
+    ensures did { let vs = seen_in variables.old in let after = seen_in variables.new in
+        let s = script.now in let m = media.now in
+        let did = Did s m desk.now who asked.now results.now seats.old seats.new vs after in
+        IfOk result did }
+    ensures same { OnErr result (seen_in variables.new ≡ seen_in variables.old) }
+{
+    match asked {
+        Step::Media(on_media) => step_on_media(
+            rt, alloc, desk, seats, script, media, steps, who, on_media, results, variables,
+        ),
+        _ => plain_step(
+            rt, alloc, desk, seats, script, media, steps, who, asked, results, variables, clock,
+        ),
+    }
+}

@@ -1,0 +1,80 @@
+// All steps of one caller.
+ghost use Rattle.std.specs.Prelude.{ℕ, ◌≡◌, ◌<◌, ◌^◌, [], OnOk, length};
+ghost use Rattle.shared_pool.specs.Refs.{IsPoolRef};
+ghost use Rattle.codec_desk.specs.Desks.{SitAt};
+ghost use Rattle.codec_desk.specs.Runs.{EachRunsNone};
+ghost use Rattle.media_variables.specs.Held.{AreOf, seen_in};
+ghost use Rattle.run_model.specs.Recorded.{steps_of};
+ghost use Rattle.order_laws.specs.Sound.{IsSound};
+ghost use Rattle.desk_callers.specs.Acts.{AreOpened, HasDone, StaySeats};
+
+use crate::callers::caller_step;
+use codec_desk::{Clock, Desk, Seats};
+use coder_api::Coder;
+use media_variables::Variables;
+use report_text::StepResult;
+use run_model::steps_of;
+use script_types::ScriptData;
+use std::alloc::Global;
+use std::sync::Wait;
+use wc_base::{List, NoMemory, Who};
+use wc_chunk::Chunk;
+
+/// All steps of the caller with this number, one after the other: their results, and what its variables hold then. `media` has the
+/// chunks of the script's chunk files. Where memory is wanted the run is to be given up: the last step may have made its entry.
+pub fn caller_steps<C: Coder, K: Clock, R: Wait>(
+    rt: &R,
+    alloc: Global,
+    desk: &Desk<C>,
+    seats: &mut Seats<C>,
+    script: &ScriptData,
+    media: &[List<Chunk>],
+    caller: u32,
+    results: &mut Vec<StepResult>,
+    variables: &mut Variables,
+    clock: &mut K,
+) -> Result<(), NoMemory>
+    requires sits { SitAt desk.now seats.old }
+    requires opened { AreOpened script.now desk.now.codecs.items }
+    requires codecs { length script.now.codecs ≡ length desk.now.codecs.items }
+    requires sound { IsSound script.now }
+    requires few { length (steps_of script.now caller) < 2 ^ 32 }
+    requires first { (results.old.items ≡ []) × (variables.old ≡ []) }
+    ensures sits { SitAt desk.now seats.new }
+    ensures runs { EachRunsNone desk.now.codecs.items seats.old.codecs.items
+        → EachRunsNone desk.now.codecs.items seats.new.codecs.items }
+    ensures stay { StaySeats desk.now seats.old seats.new }
+    ensures held { AreOf (IsPoolRef desk.now.pool) variables.new }
+    ensures done { let after = seen_in variables.new in let rs = results.new.items in
+        OnOk result
+        (HasDone script.now media.now desk.now caller rs seats.old seats.new after) }
+    ensures all { OnOk result (length results.new.items ≡ length (steps_of script.now caller)) }
+{
+    let steps = steps_of(script, caller);
+    results.reserve(steps.len())?;
+    for number in 0..steps.len() {
+        let who = Who {
+            caller,
+            step: number as u32,
+        };
+        let asked = &steps[number];
+        match caller_step(
+            rt,
+            alloc,
+            desk,
+            seats,
+            script,
+            media,
+            steps,
+            who,
+            asked,
+            results.as_slice(),
+            variables,
+            clock,
+        ) {
+            Ok(result) => results.push_reserved(result),
+            Err(NoMemory) => return Err(NoMemory),
+        }
+    }
+    Ok(())
+}
