@@ -1,0 +1,8 @@
+mod Lasting
+mod Paying
+mod Together
+mod JobLists
+mod Lists
+mod Finishing
+mod Scripts
+mod Whole

@@ -1,0 +1,91 @@
+-- A whole run.
+use Rattle.std.proofs.Common.{ℕ, ◌≡◌, ◌+◌, ◌<◌, true, List, map, Some, length, ap, sym, subst, ◌∙◌, arith}
+use Rattle.std.specs.Prelude.{slice_get}
+use Rattle.std.specs.List.{flat_map, sum_by}
+use Rattle.wc_base.specs.Views.{Log}
+use Rattle.wc_config.specs.declared.codec.CoderId.{CoderId}
+use Rattle.wc_chunk.specs.declared.chunk.Chunk.{Chunk}
+use Rattle.wc_pool.specs.Bag.{held_in, is_legal_pool}
+use Rattle.slot_registry.specs.Slots.{is_legal_slots}
+use Rattle.codec_model.specs.declared.entry.Entry.{Entry}
+use Rattle.codec_accounts.specs.Bags.{SameBag}
+use Rattle.codec_accounts.specs.Codec.{state_after}
+use Rattle.codec_accounts.specs.Owed.{at}
+use Rattle.seat_lock.specs.Logs.{entries_of}
+use Rattle.codec_logs.specs.declared.event.Event.{Event}
+use Rattle.codec_logs.specs.Logs.{IsLog}
+use Rattle.shared_codec.specs.Order.{done_at, slot_at}
+use Rattle.shared_codec.specs.Shared.{Shared}
+use Rattle.codec_desk.specs.declared.desk.Desk.{Desk}
+use Rattle.codec_desk.specs.declared.desk.Seats.{Seats}
+use Rattle.codec_desk.specs.Desks.{SitAt}
+use Rattle.desk_threads.specs.Accounts.{AllBalanced, all_calls}
+use Rattle.desk_threads.specs.Orders.{WholeInOrder}
+use Rattle.desk_threads.specs.Runs.{EachIsQuiet}
+use Rattle.desk_run.specs.declared.finishing.Finished.{Finished}
+use Rattle.desk_run.specs.Finished.{IsFinished}
+use Rattle.script_types.specs.declared.script.ScriptData.{ScriptData}
+use Rattle.run_model.specs.declared.run.Run.{Run}
+use Rattle.run_model.specs.declared.run.CallerTrace.{CallerTrace}
+use Rattle.run_model.specs.declared.run.CodecTrace.{CodecTrace}
+use Rattle.run_model.specs.Fits.{AreLegalTraces, IsLegalRun, recorded_of}
+use Rattle.run_model.specs.Recorded.{Recorded, opening_at}
+use Rattle.run_laws.specs.Fits.{AreAtRest}
+use Rattle.run_laws.specs.Paid.{histories_of}
+use Rattle.run_laws.specs.Quiet.{IsAtRest}
+use Rattle.wc_run.specs.Acted.{HaveActed, calls_of_all}
+use Rattle.wc_run.specs.Made.{IsMade}
+use Rattle.wc_run.specs.Runnable.{IsDeskOf}
+use Rattle.wc_run.specs.Threads.{HaveRun}
+use Rattle.wc_run.specs.Traces.{IsLeftBy}
+use Rattle.wc_run.proofs.Finishing.{Opens, opens_many, opening_there, logs_in, histories_are, legal_traces, entries_are, all_well, logs_legal, logs_rest, slots_in_order, media_in_order, slots_same, calls_same}
+
+-- a law of run_laws
+abbrev pub CodecsRest : Type 0
+CodecsRest = (script : ScriptData) (logs : List (Log Event)) (run : Recorded) → run.codecs ≡ histories_of logs → ((k : ℕ) → k < length logs → IsLog k (opening_at script k) (at k logs)) → AreAtRest script logs
+    → (k : ℕ) → k < length run.codecs → IsAtRest (state_after (opening_at script k) (at k run.codecs)).control
+
+module _ {C : Type 0} where
+  pub desk_of : (s : ScriptData) (desk : Desk C) → Opens s.codecs desk.codecs.items → IsDeskOf s desk
+  desk_of s desk o = record { opened = λ k x there. opening_there s.codecs desk.codecs.items k x o there; codecs = opens_many s.codecs desk.codecs.items o }
+
+  pub is_legal : (s : ScriptData) (desk : Desk C) (b : Seats C) (f : Finished C) (ts : List CallerTrace) (run : Run) → Opens s.codecs desk.codecs.items → IsFinished desk b f → length ts ≡ length s.callers → IsLeftBy ts f run → IsLegalRun s run
+  is_legal s desk b f ts run o finished many left = record {
+    callers = ap (λ (l : List CallerTrace). length l) left.callers_are ∙ many;
+    codecs = subst (λ (l : List CodecTrace). AreLegalTraces s.codecs l) (sym left.codecs) (legal_traces s.codecs desk.codecs.items b.codecs.items f.codecs.items o finished.codecs);
+    held = left.held ∙ ap held_in (sym left.pool);
+  }
+
+  pub is_made : CodecsRest → (s : ScriptData) (media : List (List Chunk)) (made : List CoderId) (desk : Desk C) (b : Seats C) (f : Finished C) (ts : List CallerTrace) (run : Run)
+      → Opens s.codecs desk.codecs.items → SitAt desk b → desk.slots.made ≡ made → IsFinished desk b f → AllBalanced desk b → WholeInOrder desk b → EachIsQuiet desk.codecs.items b.codecs.items
+      → (x : HaveRun s media desk ts b) → SameBag (all_calls desk.codecs.items b.codecs.items) (calls_of_all x.deeds) → IsLeftBy ts f run → IsMade s media made run
+  is_made rest s media made desk b f ts run o sits made_is finished balanced whole quiet x calls left =
+      let xs = desk.codecs.items in
+      let us = b.codecs.items in
+      let sl = b.slots.me.0.log in
+      let pl = b.pool.me.0.log in
+      let logs : List (Log Event) = logs_in us in
+      let well = all_well desk.pool desk.slots.id sl pl 0 xs us f.codecs.items sits.codecs finished.codecs quiet whole in
+      let recorded : (recorded_of run).codecs ≡ histories_of logs = ap (map (λ (t : CodecTrace). t.entries)) left.codecs ∙ entries_are xs us f.codecs.items finished.codecs in
+      let legal = logs_legal desk.pool desk.slots.id sl pl s.codecs xs us o well in
+      let openings : (k : ℕ) (y : Shared) → slice_get xs k ≡ Some y → y.opening ≡ opening_at s (0 + k) = λ k y there. opening_there s.codecs xs k y o there ∙ (let e : k ≡ 0 + k = omega arith in ap (opening_at s) e) in
+      let slots : run.slots ≡ entries_of sl = left.slots ∙ finished.slots in
+      let pool : run.pool ≡ entries_of pl = left.pool ∙ finished.pool in
+      let made_as : f.slots.made ≡ made = finished.made ∙ made_is in
+      let acted_as = histories_are us ∙ sym recorded in
+      let callers_as = sym left.callers_are in
+      let legal_slots : is_legal_slots f.slots.made f.slots.history ≡ true = left.slots_are_legal in
+      record {
+        logs = logs;
+        codecs = recorded;
+        logs_are = legal;
+        quiet = rest s logs (recorded_of run) recorded legal (logs_rest desk.pool desk.slots.id sl pl s.codecs xs us o well);
+        slots_are_legal = (λ i. is_legal_slots (sym made_as i) (left.slots i)) ∙ legal_slots;
+        pool_is_legal = ap is_legal_pool left.pool ∙ left.pool_is_legal;
+        slots_called = λ t. sym (ap (sum_by t) (slots_same (opening_at s) 0 desk.pool desk.slots.id xs us sits.codecs openings)) ∙ (balanced.slots t ∙ sym (ap (sum_by t) slots));
+        slot_causes = λ k place lt. slots_in_order desk.pool desk.slots.id sl pl s.codecs xs us o well k place lt ∙ sym (ap (flat_map (slot_at k place)) slots);
+        media_causes = λ k place lt. media_in_order desk.pool desk.slots.id sl pl s.codecs xs us o well k place lt ∙ sym (ap (flat_map (done_at k place)) pool);
+        deeds = x.deeds;
+        acted = subst (λ (z : List (List Entry) × List CallerTrace). HaveActed s media z.0 0 z.1 x.deeds) (λ i. (acted_as i, callers_as i)) x.acted;
+        calls = λ t. sym (ap (sum_by t) (calls_same (opening_at s) 0 desk.pool desk.slots.id xs us sits.codecs openings)) ∙ calls t;
+      }

@@ -1,0 +1,50 @@
+use Rattle.std.proofs.Common.{[], sym, subst}
+use Rattle.desk_threads.specs.PartLaws.{parts_after}
+use Rattle.wc_run.specs.declared.jobs.Role.{Role}
+use Rattle.wc_run.specs.Jobs.{HasDone}
+use Rattle.wc_run.proofs.Together.{no_more}
+use Rattle.wc_run.proofs.jobs.run_job.Goals as goal
+
+pub item_loop-requires-after_bounds : goal.item_loop-requires-after_bounds
+item_loop-requires-after_bounds g c κs within = c.requires.new.ready.sits
+
+pub turn_loop-requires-after_bounds : goal.turn_loop-requires-after_bounds
+turn_loop-requires-after_bounds g c κs within = c.requires.new.ready.sits
+
+pub returns-in-Turner : goal.returns-in-Turner
+returns-in-Turner g c =
+    let e = c.turn_loop.ensures in
+    let was = c.requires.new in
+    let desk = c.args.desk.now in
+    let a = c.args.job.now.seats in
+    let b = c.turn_loop.new.seats in
+    record {
+      ready = record { sits = e.sits; one = parts_after desk 1 a b was.ready.one e.settled; runs = e.runs was.ready.runs };
+      done = λ none. subst (λ (r : Role). HasDone c.args.script.now c.args.media.now desk r (record c.args.job.now { seats = b })) (sym c.in-Turner.is) (record {
+        paid = record { balanced = c.accounts_are_kept.ensures.kept desk a b e.settled was.paid.balanced; ordered = c.order_stands.ensures.kept desk a b e.settled was.paid.ordered };
+        did = no_more desk a b [] e.calls was.called;
+      });
+    }
+
+pub returns-in-Worker : goal.returns-in-Worker
+returns-in-Worker g c =
+    let e = c.item_loop.ensures in
+    let was = c.requires.new in
+    let desk = c.args.desk.now in
+    let a = c.args.job.now.seats in
+    let b = c.item_loop.new.seats in
+    record {
+      ready = record { sits = e.sits; one = parts_after desk 1 a b was.ready.one e.settled; runs = e.runs was.ready.runs };
+      done = λ none. subst (λ (r : Role). HasDone c.args.script.now c.args.media.now desk r (record c.args.job.now { seats = b; clock = c.item_loop.new.clock })) (sym c.in-Worker.is) (record {
+        paid = record { balanced = c.accounts_are_kept.ensures.kept desk a b e.settled was.paid.balanced; ordered = c.order_stands.ensures.kept desk a b e.settled was.paid.ordered };
+        did = no_more desk a b [] e.calls was.called;
+      });
+    }
+
+pub returns-in-Caller : goal.returns-in-Caller
+returns-in-Caller g c =
+    let e = c.make_steps.ensures in
+    record {
+      ready = e.ready;
+      done = λ none. subst (λ (r : Role). HasDone c.args.script.now c.args.media.now c.args.desk.now r c.make_steps.new.job) (sym c.in-Caller.is) (record { paid = e.paid none; did = e.did none });
+    }

@@ -1,0 +1,28 @@
+use Rattle.std.proofs.lemmas.Result.{IfOk-weaker}
+use Rattle.desk_threads.specs.PartLaws.{parts_after}
+use Rattle.wc_run.specs.Threads.{RunsFrom}
+use Rattle.wc_run.proofs.Together.{run_settled}
+use Rattle.wc_run.proofs.threads.run_desk.Goals as goal
+
+pub returns-clause-parts : goal.returns-clause-parts
+returns-clause-parts g c = parts_after c.args.desk.now c.args.seats.now.pool.me.0.parts c.run_threads-traces.new.seats c.settle_desk.new.seats c.run_threads-traces.ensures.parts c.settle_desk.ensures.settled
+
+pub returns-clause-runs : goal.returns-clause-runs
+returns-clause-runs g c none = c.settle_desk.ensures.runs (c.run_threads-traces.ensures.runs none)
+
+pub returns-clause-rested : goal.returns-clause-rested
+returns-clause-rested g c = (c.run_threads-traces.new.seats, c.settle_desk.ensures.rested)
+
+pub returns-clause-ran : goal.returns-clause-ran
+returns-clause-ran g c =
+    let s = c.args.script.now in
+    let media = c.args.media.now in
+    let desk = c.args.desk.now in
+    let a = c.args.seats.now in
+    let m = c.run_threads-traces.new.seats in
+    let b = c.settle_desk.new.seats in
+    let e = c.settle_desk.ensures in
+    IfOk-weaker c.run_threads-traces.result (λ ts. RunsFrom s media desk a ts.items m) (λ ts. RunsFrom s media desk a ts.items b)
+    (λ ts x paid none. (let y = x paid none in
+    run_settled s media desk ts.items m b e.settled e.calls (record { balanced = c.accounts_are_kept.ensures.kept desk m b e.settled y.paid.balanced; ordered = c.order_stands.ensures.kept desk m b e.settled y.paid.ordered }) y))
+    c.run_threads-traces.ensures.ran

@@ -1,0 +1,48 @@
+use Rattle.std.proofs.Common.{[], ℕ, subst}
+use Rattle.std.proofs.lemmas.Result.{IfOk-weaker}
+use Rattle.desk_threads.specs.Parts.{HaveParts}
+use Rattle.wc_run.specs.Threads.{RunsFrom}
+use Rattle.wc_run.proofs.JobLists.{new_ready}
+use Rattle.wc_run.proofs.threads.run_threads.Goals as goal
+
+pub make_jobs-requires-clause-few : goal.make_jobs-requires-clause-few
+make_jobs-requires-clause-few g c κs within = c.requires.enough
+
+pub do_jobs-requires-clause-sits : goal.do_jobs-requires-clause-sits
+do_jobs-requires-clause-sits g c κs within = c.make_jobs.ensures.stays.sits
+
+pub do_jobs-requires-clause-new : goal.do_jobs-requires-clause-new
+do_jobs-requires-clause-new g c κs within = c.make_jobs.ensures.new
+
+pub do_jobs-requires-clause-roles : goal.do_jobs-requires-clause-roles
+do_jobs-requires-clause-roles g c κs within = c.make_jobs.ensures.roles
+
+pub join_jobs-requires-clause-sits : goal.join_jobs-requires-clause-sits
+join_jobs-requires-clause-sits g c κs within = c.make_jobs.ensures.stays.sits
+
+pub join_jobs-requires-clause-ready : goal.join_jobs-requires-clause-ready
+join_jobs-requires-clause-ready g c κs within = new_ready c.args.desk.now c.make_jobs.new.jobs.items c.make_jobs.ensures.new
+
+pub returns-in-Ok-make_jobs-clause-parts : goal.returns-in-Ok-make_jobs-clause-parts
+returns-in-Ok-make_jobs-clause-parts g c =
+    let p = c.make_jobs.ensures.parts in
+    subst (λ (n : ℕ). HaveParts n c.do_jobs.new.seats) p.2 (c.do_jobs.ensures.parts p.0 p.1)
+
+pub returns-in-Ok-make_jobs-clause-ran : goal.returns-in-Ok-make_jobs-clause-ran
+returns-in-Ok-make_jobs-clause-ran g c =
+    let s = c.args.script.now in
+    let media = c.args.media.now in
+    let desk = c.args.desk.now in
+    let stays = c.make_jobs.ensures.stays in
+    let a = c.args.seats.now in
+    let m = c.make_jobs.new.seats in
+    let b = c.do_jobs.new.seats in
+    IfOk-weaker c.do_jobs.result (λ ts. RunsFrom s media desk m ts.items b) (λ ts. RunsFrom s media desk a ts.items b) (λ ts x paid none. x (stays.paid paid) (stays.calls [] none)) c.do_jobs.ensures.ran
+
+pub returns-in-Err-clause-parts : goal.returns-in-Err-clause-parts
+returns-in-Err-clause-parts g c =
+    let p = c.make_jobs.ensures.parts in
+    subst (λ (n : ℕ). HaveParts n c.join_jobs.new.seats) p.2 (c.join_jobs.ensures.parts p.0 p.1)
+
+pub returns-in-Err-clause-runs : goal.returns-in-Err-clause-runs
+returns-in-Err-clause-runs g c none = c.join_jobs.ensures.runs (c.make_jobs.ensures.stays.runs none)

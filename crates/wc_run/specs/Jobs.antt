@@ -1,0 +1,67 @@
+-- What the job of a thread of a run is before it is done, and what was done.
+use Rattle.std.specs.Prelude.{ℕ, ◌≡◌, false, List, [], Some, slice_get}
+use Rattle.wc_chunk.specs.declared.chunk.Chunk.{Chunk}
+use Rattle.codec_desk.specs.declared.desk.Desk.{Desk}
+use Rattle.codec_desk.specs.Desks.{SitAt}
+use Rattle.codec_desk.specs.Runs.{EachRunsNone}
+use Rattle.desk_threads.specs.Accounts.{Named}
+use Rattle.desk_threads.specs.Parts.{HaveParts}
+use Rattle.desk_callers.specs.Acts.{histories_in}
+use Rattle.desk_callers.specs.Deeds.{Deed, calls_of}
+use Rattle.script_types.specs.declared.script.ScriptData.{ScriptData}
+use Rattle.wc_run.specs.declared.jobs.Job.{Job}
+use Rattle.wc_run.specs.declared.jobs.Role.{Role}
+use Rattle.wc_run.specs.declared.jobs.Role.TheVariants as role
+use Rattle.wc_run.specs.Acted.{HasActed}
+use Rattle.wc_run.specs.Paid.{IsPaid}
+use Rattle.wc_run.specs.Roles.{role_at}
+
+module _ {C K : Type 0} (desk : Desk C) where
+  -- seats at this desk, each with one part, of which none runs an item of its own
+  pub record IsReady (job : Job C K) : Type 0 where
+    pub sits : SitAt desk job.seats
+    pub one : HaveParts 1 job.seats
+    pub runs : EachRunsNone desk.codecs.items job.seats.codecs.items
+
+  -- nothing of it was done
+  pub record IsNew (job : Job C K) : Type 0 where
+    pub ready : IsReady job
+    pub paid : IsPaid desk job.seats
+    pub called : Named desk [] job.seats
+    pub first : (job.results.items ≡ []) × (job.variables ≡ [])
+
+  abbrev pub AreReady : List (Job C K) → Type 0
+  AreReady jobs = (i : ℕ) (job : Job C K) → slice_get jobs i ≡ Some job → IsReady job
+
+  abbrev pub AreNew : List (Job C K) → Type 0
+  AreNew jobs = (i : ℕ) (job : Job C K) → slice_get jobs i ≡ Some job → IsNew job
+
+-- `media` has the chunks of each of the script's chunk files
+module _ {C K : Type 0} (s : ScriptData) (media : List (List Chunk)) (desk : Desk C) where
+  -- a caller made all its steps, and the calls that its seats made are those of its deeds
+  pub record CallerDid (c : ℕ) (job : Job C K) : Type 0 where
+    pub deeds : List Deed
+    pub acted : HasActed s media (histories_in job.seats.codecs.items) c job.results.items deeds
+    pub calls : Named desk (calls_of deeds) job.seats
+
+  -- only callers make calls
+  abbrev pub RoleDid : Role → Job C K → Type 0
+  RoleDid role.Turner job = Named desk [] job.seats
+  RoleDid role.Worker job = Named desk [] job.seats
+  RoleDid (role.Caller c) job = CallerDid c job
+
+  -- The job of this role was done, and no memory was wanted.
+  pub record HasDone (r : Role) (job : Job C K) : Type 0 where
+    pub paid : IsPaid desk job.seats
+    pub did : RoleDid r job
+
+  pub record IsDone (was job : Job C K) : Type 0 where
+    pub ready : IsReady desk job
+    pub done : job.wanted ≡ false → HasDone was.role job
+
+  abbrev pub AreDone : List (Job C K) → List (Job C K) → Type 0
+  AreDone before after = (i : ℕ) (was job : Job C K) → slice_get before i ≡ Some was → slice_get after i ≡ Some job → IsDone was job
+
+  -- the jobs of a run with so many workers were done, as far as no memory was wanted
+  abbrev pub AllDone : ℕ → List (Job C K) → Type 0
+  AllDone workers jobs = (i : ℕ) (job : Job C K) → slice_get jobs i ≡ Some job → job.wanted ≡ false → HasDone (role_at workers i) job

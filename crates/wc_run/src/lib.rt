@@ -1,0 +1,13 @@
+//! Runs a script with threads: each caller, each worker and one turner has its own.
+#![tactic(auto)]
+
+mod jobs;
+mod joining;
+mod making;
+mod openings;
+mod running;
+mod threads;
+mod traces;
+
+pub use jobs::{Job, Role};
+pub use running::run;

@@ -1,0 +1,96 @@
+// Jobs with seats of their own.
+ghost use Rattle.std.specs.Prelude.{ℕ, ◌≡◌, ◌+◌, ◌-◌, ◌<◌, ◌≤◌, [], length, vec_capacity, Some, slice_get, IfOk, IfErr, OnOk};
+ghost use Rattle.codec_desk.specs.Desks.{SitAt};
+ghost use Rattle.desk_threads.specs.Parts.{HaveParts};
+ghost use Rattle.wc_run.specs.declared.jobs.Job.{Job};
+ghost use Rattle.wc_run.specs.Jobs.{IsNew, AreNew};
+ghost use Rattle.wc_run.specs.Paid.{Stays};
+ghost use Rattle.wc_run.specs.Roles.{role_at};
+
+use crate::jobs::{Job, Role};
+use codec_desk::{Desk, Seats};
+use coder_api::Coder;
+use desk_threads::{order_stands, split_seats};
+use media_variables::Variables;
+use std::alloc::Global;
+use wc_base::NoMemory;
+
+/// The role of the job at a place: a turner, then so many workers, then the callers.
+#[tactic(auto, using(crate::proofs::Lists::is_worker, crate::proofs::Lists::is_caller))]
+pub(crate) fn role_at(place: usize, workers: usize) -> Role
+    requires { place < 4294967296 }
+    ensures { result ≡ role_at workers place }
+{
+    if place == 0 {
+        return Role::Turner;
+    }
+    if place <= workers {
+        return Role::Worker;
+    }
+    Role::Caller((place - workers - 1) as u32)
+}
+
+// A job with seats that are split off.
+fn make_job<C: Coder, K: Drop>(
+    alloc: Global,
+    desk: &Desk<C>,
+    seats: &mut Seats<C>,
+    role: Role,
+    clock: K,
+) -> Result<Job<C, K>, NoMemory>
+    requires sits { SitAt desk.now seats.old }
+    requires parts { HaveParts seats.old.pool.me.0.parts seats.old }
+    requires two { 2 ≤ seats.old.pool.me.0.parts }
+    ensures new { IfOk result (IsNew desk.now) }
+    ensures role { IfOk result (λ job. job.role ≡ role) }
+    ensures stays { Stays desk.now seats.old seats.new }
+    ensures parts { IfOk result (λ job. HaveParts (seats.old.pool.me.0.parts - 1) seats.new) }
+    ensures same { IfErr result (λ e. seats.new ≡ seats.old) }
+{
+    order_stands::<C>();
+    let codecs = Vec::with_capacity(alloc, desk.codecs.len())?;
+    let results = Vec::new(alloc);
+    let variables = Variables::new(alloc);
+    Ok(Job {
+        role,
+        seats: split_seats(desk, seats, codecs),
+        clock,
+        results,
+        variables,
+        wanted: false,
+    })
+}
+
+/// A job for each clock, as far as there is memory: first a turner, then so many workers, and then the callers.
+pub(crate) fn make_jobs<C: Coder, K: Drop>(
+    alloc: Global,
+    desk: &Desk<C>,
+    seats: &mut Seats<C>,
+    workers: usize,
+    clocks: Vec<K>,
+    jobs: &mut Vec<Job<C, K>>,
+) -> Result<(), NoMemory>
+    requires sits { SitAt desk.now seats.old }
+    requires parts { HaveParts seats.old.pool.me.0.parts seats.old }
+    requires few { length clocks.items + 1 ≤ seats.old.pool.me.0.parts }
+    requires short { length clocks.items < 4294967296 }
+    requires empty { jobs.old.items ≡ [] }
+    requires room { length clocks.items ≤ vec_capacity jobs.old }
+    ensures new { AreNew desk.now jobs.new.items }
+    ensures roles { (i : ℕ) (job : Job C K) → slice_get jobs.new.items i ≡ Some job
+        → job.role ≡ role_at workers i }
+    ensures stays { Stays desk.now seats.old seats.new }
+    ensures parts { (n : ℕ) × HaveParts n seats.new
+        × (n + length jobs.new.items ≡ seats.old.pool.me.0.parts) }
+    ensures all { OnOk result (length jobs.new.items ≡ length clocks.items) }
+    ensures within { length jobs.new.items ≤ length clocks.items }
+{
+    for clock in clocks {
+        let role = role_at(jobs.len(), workers);
+        let Ok(job) = make_job(alloc, desk, seats, role, clock) else {
+            return Err(NoMemory);
+        };
+        jobs.push_reserved(job);
+    }
+    Ok(())
+}

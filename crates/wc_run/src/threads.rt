@@ -1,0 +1,151 @@
+// The threads of a run on a desk.
+ghost use Rattle.std.specs.Prelude.{ℕ, ◌≡◌, ◌+◌, ◌<◌, ◌≤◌, [], length, vec_capacity, Some, slice_get, IfOk};
+ghost use Rattle.codec_desk.specs.Desks.{SitAt};
+ghost use Rattle.codec_desk.specs.Runs.{EachRunsNone};
+ghost use Rattle.desk_threads.specs.Parts.{HaveParts};
+ghost use Rattle.desk_threads.specs.Rested.{CameToRest};
+ghost use Rattle.wc_run.specs.declared.jobs.Job.{Job};
+ghost use Rattle.wc_run.specs.Jobs.{AreNew};
+ghost use Rattle.wc_run.specs.Roles.{role_at};
+ghost use Rattle.wc_run.specs.Runnable.{IsRunnable, IsDeskOf};
+ghost use Rattle.wc_run.specs.Threads.{RunsFrom};
+
+use crate::jobs::{Job, run_jobs};
+use crate::joining::join_jobs;
+use crate::making::make_jobs;
+use codec_desk::{Clock, Desk, Seats};
+use coder_api::Coder;
+use desk_threads::{accounts_are_kept, order_stands, settle_desk};
+use run_model::CallerTrace;
+use script_types::ScriptData;
+use std::alloc::Global;
+use std::sync::Wait;
+use std::sync::atomic::AtomicU64;
+use std::thread::Threads;
+use wc_base::{List, NoMemory};
+use wc_chunk::Chunk;
+
+// Does all jobs, and joins their seats: then what the callers' steps came to.
+fn do_jobs<C: Coder, K: Clock + Send + Drop, R: Threads + Wait + Sync>(
+    rt: &R,
+    alloc: Global,
+    desk: &Desk<C>,
+    seats: &mut Seats<C>,
+    script: &ScriptData,
+    media: &[List<Chunk>],
+    workers: usize,
+    mut jobs: Vec<Job<C, K>>,
+    mut traces: Vec<CallerTrace>,
+) -> Result<Vec<CallerTrace>, NoMemory>
+    requires runnable { IsRunnable script.now }
+    requires desk { IsDeskOf script.now desk.now }
+    requires sits { SitAt desk.now seats.old }
+    requires new { AreNew desk.now jobs.items }
+    requires roles { (i : ℕ) (job : Job C K) → slice_get jobs.items i ≡ Some job
+        → job.role ≡ role_at workers i }
+    requires few { length jobs.items < 4294967296 }
+    requires empty { traces.items ≡ [] }
+    requires room { length jobs.items ≤ vec_capacity traces }
+    requires many { length jobs.items ≡ workers + 1 + length script.now.callers }
+    ensures sits { SitAt desk.now seats.new }
+    ensures parts { (n : ℕ) → HaveParts n seats.old
+        → HaveParts (n + length jobs.items) seats.new }
+    ensures runs { EachRunsNone desk.now.codecs.items seats.old.codecs.items
+        → EachRunsNone desk.now.codecs.items seats.new.codecs.items }
+    ensures many { IfOk result (λ ts. length ts.items ≡ length script.now.callers) }
+    ensures ran { IfOk result
+        (λ ts. RunsFrom script.now media.now desk.now seats.old ts.items seats.new) }
+{
+    let callers = AtomicU64::new(script.callers.as_slice().len() as u64);
+    run_jobs(
+        rt,
+        alloc,
+        desk,
+        script,
+        media,
+        &callers,
+        jobs.as_mut_slice(),
+    );
+    if join_jobs(desk, seats, workers, jobs, &mut traces) {
+        return Err(NoMemory);
+    }
+    Ok(traces)
+}
+
+// Callers, workers and a turner, each in a thread of its own where one can be made; then what the callers' steps came to.
+fn run_threads<C: Coder, K: Clock + Send + Drop, R: Threads + Wait + Sync>(
+    rt: &R,
+    alloc: Global,
+    desk: &Desk<C>,
+    seats: &mut Seats<C>,
+    script: &ScriptData,
+    media: &[List<Chunk>],
+    workers: usize,
+    clocks: Vec<K>,
+) -> Result<Vec<CallerTrace>, NoMemory>
+    requires runnable { IsRunnable script.now }
+    requires desk { IsDeskOf script.now desk.now }
+    requires sits { SitAt desk.now seats.old }
+    requires parts { HaveParts seats.old.pool.me.0.parts seats.old }
+    requires enough { length clocks.items + 1 ≤ seats.old.pool.me.0.parts }
+    requires few { length clocks.items < 4294967296 }
+    requires clocks { length clocks.items ≡ workers + 1 + length script.now.callers }
+    ensures sits { SitAt desk.now seats.new }
+    ensures parts { HaveParts seats.old.pool.me.0.parts seats.new }
+    ensures runs { EachRunsNone desk.now.codecs.items seats.old.codecs.items
+        → EachRunsNone desk.now.codecs.items seats.new.codecs.items }
+    ensures many { IfOk result (λ ts. length ts.items ≡ length script.now.callers) }
+    ensures ran { IfOk result
+        (λ ts. RunsFrom script.now media.now desk.now seats.old ts.items seats.new) }
+{
+    let Ok(mut traces) = Vec::with_capacity(alloc, clocks.len()) else {
+        return Err(NoMemory);
+    };
+    let Ok(mut jobs) = Vec::with_capacity(alloc, clocks.len()) else {
+        return Err(NoMemory);
+    };
+    match make_jobs(alloc, desk, seats, workers, clocks, &mut jobs) {
+        Ok(()) => do_jobs(rt, alloc, desk, seats, script, media, workers, jobs, traces),
+        Err(NoMemory) => {
+            let _ = join_jobs(desk, seats, workers, jobs, &mut traces);
+            Err(NoMemory)
+        }
+    }
+}
+
+/// The callers of a script, so many workers and a turner on a desk, each in a thread of its own where one can be made; and then
+/// all that is left to do. The answer is what the callers' steps came to. Whatever it is, the seats have all their parts again, and
+/// came to rest.
+pub(crate) fn run_desk<C: Coder, K: Clock + Send + Drop, R: Threads + Wait + Sync>(
+    rt: &R,
+    alloc: Global,
+    desk: &Desk<C>,
+    seats: &mut Seats<C>,
+    script: &ScriptData,
+    media: &[List<Chunk>],
+    workers: usize,
+    clocks: Vec<K>,
+    clock: &mut K,
+) -> Result<Vec<CallerTrace>, NoMemory>
+    requires runnable { IsRunnable script.now }
+    requires desk { IsDeskOf script.now desk.now }
+    requires sits { SitAt desk.now seats.old }
+    requires parts { HaveParts seats.old.pool.me.0.parts seats.old }
+    requires enough { length clocks.items + 1 ≤ seats.old.pool.me.0.parts }
+    requires few { length clocks.items < 4294967296 }
+    requires clocks { length clocks.items ≡ workers + 1 + length script.now.callers }
+    ensures sits { SitAt desk.now seats.new }
+    ensures parts { HaveParts seats.old.pool.me.0.parts seats.new }
+    ensures runs { EachRunsNone desk.now.codecs.items seats.old.codecs.items
+        → EachRunsNone desk.now.codecs.items seats.new.codecs.items }
+    ensures rested { (a : Seats C) × CameToRest desk.now a seats.new }
+    ensures many { IfOk result (λ ts. length ts.items ≡ length script.now.callers) }
+    ensures ran { IfOk result
+        (λ ts. RunsFrom script.now media.now desk.now seats.old ts.items seats.new) }
+{
+    accounts_are_kept::<C>();
+    order_stands::<C>();
+    let traces = run_threads(rt, alloc, desk, seats, script, media, workers, clocks);
+    settle_desk(rt, alloc, desk, seats, clock);
+    traces
+}
