@@ -69,11 +69,11 @@ by_length name bytes read false h = by_read name bytes (not_more most_file (leng
 -- ---- both
 
 by_verb : OneReading → MediaLaws → (v : Verb) (name : List ℕ) (files : Holding) (bytes : List ℕ) (a b : Outcome) → ComesBy v name files bytes a → ComesBy v name files bytes b → a ≡ b
-by_verb one laws Verb.Replay name files bytes a b p q = same_becomes one files (playable_of bytes) a b p q
+by_verb one laws (Verb.Run mode) name files bytes a b p q = same_becomes one files (playable_of mode bytes) a b p q
 by_verb one laws Verb.Probe name files bytes a b p q = same_probed laws name bytes a b p q
 
 some_by : SomeReading → MediaLaws → (v : Verb) (name : List ℕ) (files : Holding) (bytes : List ℕ) → (outcome : Outcome) × ComesBy v name files bytes outcome
-some_by some laws Verb.Replay name files bytes = some_becomes some files (playable_of bytes)
+some_by some laws (Verb.Run mode) name files bytes = some_becomes some files (playable_of mode bytes)
 some_by some laws Verb.Probe name files bytes = by_length name bytes (laws.some bytes) (nat_lt most_file (length bytes)) refl
 
 pub one_outcome : OneReading → MediaLaws → OneOutcome

@@ -64,7 +64,7 @@ not_file (Some c) name is none = absurd cc
 
 has_command : (r : Reading) (x : Fault) → Comes r x → r.command ≡ None → ⊥
 has_command r (Fault.Unread n) (inl c, rose) none = not_file r.command n c none
-has_command r (Fault.Unread n) (inr c, rose) none = no_usage _ r.command c.1 none
+has_command r (Fault.Unread n) (inr c, rose) none = no_usage _ r.command c.2 none
 has_command r (Fault.TooMany Counted.Script) c none = no_usage _ r.command c none
 has_command r x c none = no_usage _ r.command c none
 

@@ -11,35 +11,36 @@ use Rattle.wc_chunk.specs.declared.chunk.Chunk.{Chunk}
 use Rattle.run_model.specs.Missing.{missing_in}
 use Rattle.wcrun.specs.Outcome.{Outcome, Runs, playable_of, if_spelled, if_there, Becomes, IsOutcome}
 use Rattle.wcrun.specs.Stops.{MayStop, MayStopFor}
-use Rattle.wcrun.specs.Words.{command, to_replay}
+use Rattle.wcrun.specs.Words.{command, to_run}
+use Rattle.wcrun.specs.declared.command.Mode.{Mode}
 use Rattle.wcrun.specs.declared.command.Verb.{Verb}
 use Rattle.wcrun.proofs.Files.{told_more, there_more, rose_since}
 
--- the script of the named file, where it can be replayed
-abbrev pub Spells : Option Holding → List ℕ → ScriptData → Type 0
-Spells content name s = IfSome content (λ held. IsSomeAnd (held name) (λ bytes. playable_of bytes ≡ Ok s))
+-- the script of the named file, where it can be run so
+abbrev pub Spells : Mode → Option Holding → List ℕ → ScriptData → Type 0
+Spells mode content name s = IfSome content (λ held. IsSomeAnd (held name) (λ bytes. playable_of mode bytes ≡ Ok s))
 
-comes_to : (content : Option Holding) (name : List ℕ) (s : ScriptData) (outcome : Outcome) (P Q : Type 0) → (P → Q) → Spells content name s → MatchOption content P (λ held. Becomes held (Ok s) outcome) → MatchOption content Q (λ files. IsSomeAnd (files name) (λ bytes. IsOutcome (command Verb.Replay name) files bytes outcome))
-comes_to None name s outcome P Q f h g = f g
-comes_to (Some held) name s outcome P Q f h g = there_more _ _ (held name) (λ bytes e. subst (λ p. Becomes held p outcome) (sym e) g) h
+comes_to : (mode : Mode) (content : Option Holding) (name : List ℕ) (s : ScriptData) (outcome : Outcome) (P Q : Type 0) → (P → Q) → Spells mode content name s → MatchOption content P (λ held. Becomes held (Ok s) outcome) → MatchOption content Q (λ files. IsSomeAnd (files name) (λ bytes. IsOutcome (command (Verb.Run mode) name) files bytes outcome))
+comes_to mode None name s outcome P Q f h g = f g
+comes_to mode (Some held) name s outcome P Q f h g = there_more _ _ (held name) (λ bytes e. subst (λ p. Becomes held p outcome) (sym e) g) h
 
-named_in : (content : Option Holding) (file name : List ℕ) (s : ScriptData) → Spells content file s → IsReached content s name → IfSome content (λ held. IsSomeAnd (held file) (λ bytes. (t : ScriptData) × (playable_of bytes ≡ Ok t) × IsReached content t name))
-named_in content file name s h m = told_more (Unit {0}) (λ held. IsSomeAnd (held file) (λ bytes. playable_of bytes ≡ Ok s)) _ content (λ held. there_more _ _ (held file) (λ bytes e. (s, e, m))) h
+named_in : (mode : Mode) (content : Option Holding) (file name : List ℕ) (s : ScriptData) → Spells mode content file s → IsReached content s name → IfSome content (λ held. IsSomeAnd (held file) (λ bytes. (t : ScriptData) × (playable_of mode bytes ≡ Ok t) × IsReached content t name))
+named_in mode content file name s h m = told_more (Unit {0}) (λ held. IsSomeAnd (held file) (λ bytes. playable_of mode bytes ≡ Ok s)) _ content (λ held. there_more _ _ (held file) (λ bytes e. (s, e, m))) h
 
 -- what is known of names after an error, whatever else the answer could have held
 pub failed_as : (T : Type 0) (xb xc : List (List ℕ)) (e : Stop Fault) → FailedBy {T = T} xb xc (Err e) → FailedBy {T = Unit {0}} xb xc (Err e)
 failed_as T xb xc (Stop.Fault (Fault.Unread n)) h = h
 failed_as T xb xc _ h = h
 
--- why there is no replay of a script that can be replayed
-pub stops : (content : Option Holding) (name : List ℕ) (s : ScriptData) (fa fb fc ba bb bc : ℕ) (xa xb xc : List (List ℕ)) (e : Stop Fault) → fa ≤ fb → ba ≤ bb → xb ≡ xa → Spells content name s
-    → MayStopFor content s fb fc bb bc e → FailedBy {T = Unit {0}} xb xc (Err e) → MayStop (reading (to_replay name) content fa fc ba bc xa xc) e
-stops content name s fa fb fc ba bb bc xa xb xc Stop.NoMemory le le' same h g f = tt
-stops content name s fa fb fc ba bb bc xa xb xc (Stop.Fault (Fault.Unread n)) le le' same h (m, rose) f =
-    (inr (refl, named_in content name n s h m), (rose_since 1 fa fb fc le rose, f ∙ ap (λ (l : List (List ℕ)). l ++ n ∷ []) same))
-stops content name s fa fb fc ba bb bc xa xb xc (Stop.Fault (Fault.TooMany Counted.Script)) le le' same h g f = elim g [ ]
-stops content name s fa fb fc ba bb bc xa xb xc (Stop.Fault (Fault.TooMany Counted.File)) le le' same h g f = comes_to content name s _ _ _ (rose_since 268435457 ba bb bc le') h g
-stops content name s fa fb fc ba bb bc xa xb xc (Stop.Fault x) le le' same h g f = comes_to content name s _ (Unit {0}) (Unit {0}) (λ u. u) h g
+-- why there is no run of a script that can be run so
+pub stops : (mode : Mode) (content : Option Holding) (name : List ℕ) (s : ScriptData) (fa fb fc ba bb bc : ℕ) (xa xb xc : List (List ℕ)) (e : Stop Fault) → fa ≤ fb → ba ≤ bb → xb ≡ xa → Spells mode content name s
+    → MayStopFor content s fb fc bb bc e → FailedBy {T = Unit {0}} xb xc (Err e) → MayStop (reading (to_run mode name) content fa fc ba bc xa xc) e
+stops mode content name s fa fb fc ba bb bc xa xb xc Stop.NoMemory le le' same h g f = tt
+stops mode content name s fa fb fc ba bb bc xa xb xc (Stop.Fault (Fault.Unread n)) le le' same h (m, rose) f =
+    (inr (mode, refl, named_in mode content name n s h m), (rose_since 1 fa fb fc le rose, f ∙ ap (λ (l : List (List ℕ)). l ++ n ∷ []) same))
+stops mode content name s fa fb fc ba bb bc xa xb xc (Stop.Fault (Fault.TooMany Counted.Script)) le le' same h g f = elim g [ ]
+stops mode content name s fa fb fc ba bb bc xa xb xc (Stop.Fault (Fault.TooMany Counted.File)) le le' same h g f = comes_to mode content name s _ _ _ (rose_since 268435457 ba bb bc le') h g
+stops mode content name s fa fb fc ba bb bc xa xb xc (Stop.Fault x) le le' same h g f = comes_to mode content name s _ (Unit {0}) (Unit {0}) (λ u. u) h g
 
 -- ---- the chunk files
 
@@ -60,14 +61,14 @@ media_stops content s fb fc bb bc e h = elim h [ ]
 pub chunk_files_read : (content : Option Holding) (s : ScriptData) (media : List (List Chunk)) → IfSome content (λ files. GivesMedia files s (Ok media)) → missing_in s media ≡ None → IfSome content (λ files. Becomes files (Ok s) (Ok (Runs (record { script = s; media = media }))))
 chunk_files_read content s media h none = told_more _ _ _ content (λ files g. (Ok media, g, ap (if_there s media) (sym none))) h
 
--- ---- a script that can not be replayed
+-- ---- a script that can not be run so
 
-refused_at : (held : Holding) (name : List ℕ) (e : Stop Fault) (bytes : List ℕ) (b : Option (List ℕ)) → b ≡ Some bytes → playable_of bytes ≡ Err e → IsSomeAnd b (λ bytes. IsOutcome (command Verb.Replay name) held bytes (Err e))
-refused_at held name e bytes b is q = subst (λ o. IsSomeAnd o (λ bytes. IsOutcome (command Verb.Replay name) held bytes (Err e))) (sym is) (subst (λ p. Becomes held p (Err e)) (sym q) refl)
+refused_at : (mode : Mode) (held : Holding) (name : List ℕ) (e : Stop Fault) (bytes : List ℕ) (b : Option (List ℕ)) → b ≡ Some bytes → playable_of mode bytes ≡ Err e → IsSomeAnd b (λ bytes. IsOutcome (command (Verb.Run mode) name) held bytes (Err e))
+refused_at mode held name e bytes b is q = subst (λ o. IsSomeAnd o (λ bytes. IsOutcome (command (Verb.Run mode) name) held bytes (Err e))) (sym is) (subst (λ p. Becomes held p (Err e)) (sym q) refl)
 
-refused_in : (content : Option Holding) (name bytes : List ℕ) (e : Stop Fault) → IfSome content (λ held. held name ≡ Some bytes) → playable_of bytes ≡ Err e
-    → IfSome content (λ files. IsSomeAnd (files name) (λ bytes. IsOutcome (command Verb.Replay name) files bytes (Err e)))
-refused_in content name bytes e h q = told_more _ _ _ content (λ held is. refused_at held name e bytes (held name) is q) h
+refused_in : (mode : Mode) (content : Option Holding) (name bytes : List ℕ) (e : Stop Fault) → IfSome content (λ held. held name ≡ Some bytes) → playable_of mode bytes ≡ Err e
+    → IfSome content (λ files. IsSomeAnd (files name) (λ bytes. IsOutcome (command (Verb.Run mode) name) files bytes (Err e)))
+refused_in mode content name bytes e h q = told_more _ _ _ content (λ held is. refused_at mode held name e bytes (held name) is q) h
 
 by_script : (r : Reading) (x : Fault) → IsOfScript (Stop.Fault x) → ComesTo r (Err (Stop.Fault x)) → Comes r x
 by_script r (Fault.Unread n) o h = elim o [ ]
@@ -75,20 +76,20 @@ by_script r (Fault.TooMany Counted.Script) o h = elim o [ ]
 by_script r (Fault.TooMany Counted.File) o h = elim o [ ]
 by_script r x o h = h
 
--- a script that was read can not be replayed
-pub script_stops : (content : Option Holding) (name bytes : List ℕ) (fa fc ba bc : ℕ) (xa xc : List (List ℕ)) (e : Stop Fault) → IfSome content (λ held. held name ≡ Some bytes)
-    → IsOfScript e → (e ≢ Stop.NoMemory → playable_of bytes ≡ Err e) → MayStop (reading (to_replay name) content fa fc ba bc xa xc) e
-script_stops content name bytes fa fc ba bc xa xc Stop.NoMemory h o k = tt
-script_stops content name bytes fa fc ba bc xa xc (Stop.Fault x) h o k =
-    by_script (reading (to_replay name) content fa fc ba bc xa xc) x o (refused_in content name bytes (Stop.Fault x) h (k (λ is. absurd cc)))
+-- a script that was read can not be run so
+pub script_stops : (mode : Mode) (content : Option Holding) (name bytes : List ℕ) (fa fc ba bc : ℕ) (xa xc : List (List ℕ)) (e : Stop Fault) → IfSome content (λ held. held name ≡ Some bytes)
+    → IsOfScript e → (e ≢ Stop.NoMemory → playable_of mode bytes ≡ Err e) → MayStop (reading (to_run mode name) content fa fc ba bc xa xc) e
+script_stops mode content name bytes fa fc ba bc xa xc Stop.NoMemory h o k = tt
+script_stops mode content name bytes fa fc ba bc xa xc (Stop.Fault x) h o k =
+    by_script (reading (to_run mode name) content fa fc ba bc xa xc) x o (refused_in mode content name bytes (Stop.Fault x) h (k (λ is. absurd cc)))
 
-long : (bytes : List ℕ) → 16777216 < length bytes → playable_of bytes ≡ Err (Stop.Fault (Fault.TooMany Counted.Script))
-long bytes lt =
+long : (mode : Mode) (bytes : List ℕ) → 16777216 < length bytes → playable_of mode bytes ≡ Err (Stop.Fault (Fault.TooMany Counted.Script))
+long mode bytes lt =
     let many : nat_lt 16777216 (length bytes) ≡ true = search arith in
-    ap (λ (b : Bool). if b then Err (Stop.Fault (Fault.TooMany Counted.Script)) else if_spelled (script_of bytes)) many
+    ap (λ (b : Bool). if b then Err (Stop.Fault (Fault.TooMany Counted.Script)) else if_spelled mode (script_of bytes)) many
 
 -- a script file that is too long
-pub script_is_long : (content : Option Holding) (name : List ℕ) (b c : ℕ) → MatchOption content (RoseBy 16777217 b c) (λ files. IsSomeAnd (files name) (λ bytes. 16777216 < length bytes)) → MatchOption content (RoseBy 16777217 b c) (λ files. IsSomeAnd (files name) (λ bytes. IsOutcome (command Verb.Replay name) files bytes (Err (Stop.Fault (Fault.TooMany Counted.Script)))))
-script_is_long content name b c h =
+pub script_is_long : (mode : Mode) (content : Option Holding) (name : List ℕ) (b c : ℕ) → MatchOption content (RoseBy 16777217 b c) (λ files. IsSomeAnd (files name) (λ bytes. 16777216 < length bytes)) → MatchOption content (RoseBy 16777217 b c) (λ files. IsSomeAnd (files name) (λ bytes. IsOutcome (command (Verb.Run mode) name) files bytes (Err (Stop.Fault (Fault.TooMany Counted.Script)))))
+script_is_long mode content name b c h =
     let e : Outcome = Err (Stop.Fault (Fault.TooMany Counted.Script)) in
-    told_more _ _ _ content (λ held. there_more _ _ (held name) (λ bytes lt. subst (λ p. Becomes held p e) (sym (long bytes lt)) refl)) h
+    told_more _ _ _ content (λ held. there_more _ _ (held name) (λ bytes lt. subst (λ p. Becomes held p e) (sym (long mode bytes lt)) refl)) h

@@ -1,4 +1,4 @@
--- What `replay FILE` and `probe FILE` write, and with which status they end.
+-- What `replay FILE`, `run FILE` and `probe FILE` write, and with which status they end.
 --
 -- Status 0 is a whole report, or the line of a media file, 6 is want of memory, 5 is a failed sink, and 2, 3, 4 and 7 are refusals. What is said of the
 -- bytes of files and of the sink holds where they tell them.
@@ -13,12 +13,15 @@ use Rattle.chunk_files.specs.declared.fault.Stop.TheVariants as stop
 use Rattle.script_types.specs.declared.script.ScriptData.{ScriptData}
 use Rattle.run_model.specs.declared.run.Run.{Run}
 use Rattle.run_model.specs.Fits.{IsLegalRun, FitsInOrder}
+use Rattle.wc_run.specs.Made.{IsMade}
 use Rattle.trace_text.specs.Report.{report_of}
 use Rattle.media_files.specs.Media.{IsReached}
 use Rattle.wcrun.specs.Refusals.{status_of, line_of, usage_line, memory_line}
 use Rattle.wcrun.specs.Outcome.{Ready, Ending, Runs, Outcome, playable_of, IsOutcome}
 use Rattle.wcrun.specs.Probe.{IsMediaLine}
 use Rattle.wcrun.specs.Words.{Command}
+use Rattle.wcrun.specs.declared.command.Mode.{Mode}
+use Rattle.wcrun.specs.declared.command.Mode.TheVariants as mode
 use Rattle.wcrun.specs.declared.command.Verb.{Verb}
 use Rattle.wcrun.specs.declared.command.Verb.TheVariants as verb
 
@@ -84,19 +87,26 @@ abbrev pub file_in : Option Command → Option (List ℕ)
 file_in None = None
 file_in (Some c) = Some c.file
 
--- A run that is legal and fits the script that the file's bytes spell, with the chunks of its chunk files; `coders` has the
--- ids of the coders that were handed in.
-pub record IsRunOf (r : Reading) (coders : List CoderId) (ready : Ready) (run : Run) : Type 0 where
+-- What a run is of a script and the chunks of its chunk files: a replay fits them and follows the order, and one with threads is
+-- what these made.
+abbrev pub IsRunBy : Mode → List CoderId → Ready → Run → Type 0
+IsRunBy mode.InOrder coders ready run = FitsInOrder ready.script ready.media coders run
+IsRunBy (mode.Threads workers) coders ready run = IsMade ready.script ready.media coders run
+
+-- A run that is legal, of the script that the file's bytes spell, with the chunks of its chunk files; `coders` has the ids of the
+-- coders that were handed in.
+pub record IsRunOf (m : Mode) (r : Reading) (coders : List CoderId) (ready : Ready) (run : Run) : Type 0 where
   pub spelled : ComesTo r (Ok (Runs ready))
   pub legal : IsLegalRun ready.script run
-  pub fits : FitsInOrder ready.script ready.media coders run
+  pub fits : IsRunBy m coders ready run
 
 -- The text is the report of such a run, for which the words ask.
 pub record IsReport (r : Reading) (coders : List CoderId) (text : List ℕ) : Type 0 where
-  pub asked : verb_in r.command ≡ Some verb.Replay
+  pub mode : Mode
+  pub asked : verb_in r.command ≡ Some (verb.Run mode)
   pub ready : Ready
   pub run : Run
-  pub ran : IsRunOf r coders ready run
+  pub ran : IsRunOf mode r coders ready run
   pub whole : text ≡ report_of ready.script run
 
 -- The text is the line of the media file for which the words ask.
@@ -128,7 +138,7 @@ pub record IsCut (r : Reading) (coders : List CoderId) (text : List ℕ) : Type 
 abbrev pub IsNamed : Reading → List ℕ → Type 0
 IsNamed r name =
     (file_in r.command ≡ Some name)
-    ⊎ ((verb_in r.command ≡ Some verb.Replay) × OfFile r (λ c files bytes. (s : ScriptData) × (playable_of bytes ≡ Ok s) × IsReached r.content s name))
+    ⊎ ((m : Mode) × (verb_in r.command ≡ Some (verb.Run m)) × OfFile r (λ c files bytes. (s : ScriptData) × (playable_of m bytes ≡ Ok s) × IsReached r.content s name))
 
 -- In this call a read of the file of this name failed, and no other read.
 abbrev pub HasFailed : Reading → List ℕ → Type 0
@@ -202,7 +212,7 @@ status_for (Err stop.NoMemory) = 6
 
 -- Where no read, no write and no memory fails, the words and what the files hold alone give the status: so 2 comes exactly
 -- where the words are no command, 7 exactly where a count is above its limit, and 3 exactly where the bytes spell no script
--- that has an order, a chunk file or the file of `probe` is no media file, or a chunk file lacks a chunk that is taken.
+-- that can be run so, a chunk file or the file of `probe` is no media file, or a chunk file lacks a chunk that is taken.
 -- Whatever the files hold, the file's bytes come to something.
 pub record Decides (r : Reading) (w : Writing) : Type 0 where
   pub words : r.command ≡ None → w.answer ≢ 5 → w.answer ≢ 6 → w.answer ≡ 2
@@ -210,7 +220,7 @@ pub record Decides (r : Reading) (w : Writing) : Type 0 where
       → w.answer ≢ 4 → w.answer ≢ 5 → w.answer ≢ 6 → w.answer ≡ status_for outcome)
   pub some : IfFile r (λ c files bytes. (outcome : Outcome) × IsOutcome c files bytes outcome)
 
--- Where the file's bytes come to a script that can be replayed or to a media file's line, and no count of faults rose, the
+-- Where the file's bytes come to a script that can be run or to a media file's line, and no count of faults rose, the
 -- status is 0 or want of memory.
 abbrev pub IsComplete : Reading → Writing → Type 0
 IsComplete r w = IfFile r (λ c files bytes. (ending : Ending) → IsOutcome c files bytes (Ok ending) → ¬ Rose r.faults_before r.faults_after → ¬ Rose w.faults_before w.faults_after → w.answer ≢ 6 → w.answer ≡ 0)

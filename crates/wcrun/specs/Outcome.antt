@@ -1,9 +1,9 @@
 -- What the bytes of the file of a command come to, where the files hold the rest.
 --
--- Those of a script file come to a script that is replayed and the chunks of its chunk files, or to why there is no replay.
--- The first cause decides: the file's length, the faults of the script in the order of the walk, an order that is absent, the
--- chunk files in order of first mention, and the first chunk that its file lacks. Those of a media file come to the line that
--- tells of it, or to why there is none: the file's length first, and then the first fault of its format.
+-- Those of a script file come to a script that is run and the chunks of its chunk files, or to why there is no run.
+-- The first cause decides: the file's length, the faults of the script in the order of the walk, an order that is absent where
+-- one is followed, the chunk files in order of first mention, and the first chunk that its file lacks. Those of a media file come
+-- to the line that tells of it, or to why there is none: the file's length first, and then the first fault of its format.
 use Rattle.std.specs.Prelude.{ℕ, ◌≡◌, ◌≤◌, ◌<◌, nat_lt, if◌then◌else◌, List, [], length, Option, Some, None, unwrap_or, Result, Ok, Err}
 use Rattle.std.specs.List.{slice_get}
 use Rattle.wc_chunk.specs.declared.chunk.Chunk.{Chunk}
@@ -24,32 +24,35 @@ use Rattle.wc_script.specs.Read.{script_of}
 use Rattle.run_model.specs.Missing.{missing_in}
 use Rattle.wcrun.specs.Probe.{IsMediaLine}
 use Rattle.wcrun.specs.Words.{Command}
+use Rattle.wcrun.specs.declared.command.Mode.{Mode}
+use Rattle.wcrun.specs.declared.command.Mode.TheVariants as mode
 use Rattle.wcrun.specs.declared.command.Verb.{Verb}
 use Rattle.wcrun.specs.declared.command.Verb.TheVariants as verb
 
--- a script that can be replayed, or why there is none
+-- a script that can be run, or why there is none
 abbrev pub Playable : Type 0
 Playable = Result ScriptData (Stop Fault)
 
--- a script without an order is not replayed
-abbrev pub if_playable : Option (List OrderItem) → ScriptData → Playable
-if_playable None s = Err (stop.Fault (fault.At place.Top wrong.Shape))
-if_playable (Some items) s = Ok s
+-- a script without an order is not replayed; threads want none
+abbrev pub if_playable : Mode → Option (List OrderItem) → ScriptData → Playable
+if_playable mode.InOrder None s = Err (stop.Fault (fault.At place.Top wrong.Shape))
+if_playable mode.InOrder (Some items) s = Ok s
+if_playable (mode.Threads workers) order s = Ok s
 
-abbrev pub if_spelled : Playable → Playable
-if_spelled (Ok s) = if_playable s.order s
-if_spelled (Err e) = Err e
+abbrev pub if_spelled : Mode → Playable → Playable
+if_spelled m (Ok s) = if_playable m s.order s
+if_spelled m (Err e) = Err e
 
--- the script that bytes spell and that can be replayed, or why there is none
-abbrev pub playable_of : List ℕ → Playable
-playable_of bytes =
-    if nat_lt 16777216 (length bytes) then Err (stop.Fault (fault.TooMany counted.Script)) else if_spelled (script_of bytes)
+-- the script that bytes spell and that can be run so, or why there is none
+abbrev pub playable_of : Mode → List ℕ → Playable
+playable_of m bytes =
+    if nat_lt 16777216 (length bytes) then Err (stop.Fault (fault.TooMany counted.Script)) else if_spelled m (script_of bytes)
 
 -- the name of a chunk file
 abbrev pub name_of : ScriptData → ℕ → List ℕ
 name_of s file = unwrap_or (slice_get s.chunk_files file) []
 
--- a script that can be replayed, with the chunks of its files
+-- a script that can be run, with the chunks of its files
 pub record Ready : Type 0 where
   pub script : ScriptData
   pub media : List (List Chunk)
@@ -72,7 +75,7 @@ abbrev pub ready_of : ScriptData → Answers → Outcome
 ready_of s (Ok media) = if_there s media (missing_in s media)
 ready_of s (Err e) = Err e
 
--- what a script that can be replayed comes to
+-- what a script that can be run comes to
 abbrev pub Becomes : (List ℕ → Option (List ℕ)) → Playable → Outcome → Type 0
 Becomes files (Ok s) outcome = (media : Answers) × GivesMedia files s media × (outcome ≡ ready_of s media)
 Becomes files (Err e) outcome = outcome ≡ Err e
@@ -85,7 +88,7 @@ IsProbed name bytes (Err (stop.Fault (fault.Chunks n e))) = (n ≡ name) × (len
 IsProbed _ _ _ = ⊥
 
 abbrev pub ComesBy : Verb → List ℕ → (List ℕ → Option (List ℕ)) → List ℕ → Outcome → Type 0
-ComesBy verb.Replay name files bytes outcome = Becomes files (playable_of bytes) outcome
+ComesBy (verb.Run m) name files bytes outcome = Becomes files (playable_of m bytes) outcome
 ComesBy verb.Probe name files bytes outcome = IsProbed name bytes outcome
 
 -- what the bytes of a command's file come to

@@ -1,47 +1,87 @@
 // The top call.
-ghost use Rattle.std.specs.Prelude.{◌≡◌, ◌⊎◌, true, map, IfOk, IfErr, List};
+ghost use Rattle.std.specs.Prelude.{◌≡◌, ◌≤◌, ◌⊎◌, true, map, length, IfOk, IfErr, IsSome, List, None};
+ghost use Rattle.run_model.specs.Fits.{IsLegalRun};
+ghost use Rattle.run_model.specs.Missing.{missing_in};
 ghost use Rattle.trace_text.specs.Report.{report_of};
 ghost use Rattle.wc_config.specs.declared.codec.CoderId.{CoderId};
-ghost use Rattle.wcrun.specs.Words.{words_of, command_of, to_probe, to_replay};
+ghost use Rattle.wcrun.specs.Words.{words_of, command_of, to_probe, to_run, HasWorkers};
+ghost use Rattle.wcrun.specs.declared.command.Mode.TheVariants as modes;
+ghost use Rattle.wcrun.specs.declared.command.Verb.TheVariants as verb;
 ghost use Rattle.wcrun.specs.Refusals.{status_of, line_of, usage_line, memory_line};
-ghost use Rattle.wcrun.specs.Headline.{reading, writing, IsRunOf, Headline, Decides, IsComplete};
+ghost use Rattle.wcrun.specs.Headline.{reading, writing, IsRunBy, IsRunOf, Headline, Decides, IsComplete};
 ghost use Rattle.wcrun.specs.Stops.{MayStop};
 ghost use Rattle.wcrun.specs.Writing.{WritesText, WritesLine};
 
 use crate::Refusal;
-use crate::command::{Verb, command_of};
+use crate::command::{Mode, Verb, command_of};
 use crate::laws::files_have_one_outcome;
 use crate::prepare::prepare;
-use crate::prepared::Replayed;
+use crate::prepared::{Prepared, Ran};
 use crate::probe::probe;
+use codec_desk::Clock;
 use coder_api::Coder;
 use run_model::Run;
 use script_types::{Fault, Script, Stop};
 use std::alloc::Global;
+use std::sync::Wait;
+use std::thread::Threads;
 use trace_text::{WriteFault, write_report};
-use wc_base::{Files, Sink};
+use wc_base::{Files, NoMemory, Sink};
 use wc_replay::replay;
+use wc_run::run;
+
+// The run of a script, in its order or with threads.
+fn run_by<C: Coder, K: Clock + Send + Drop, R: Threads + Wait + Sync>(
+    rt: &R,
+    alloc: Global,
+    mode: Mode,
+    prepared: &Prepared,
+    coders: Vec<C>,
+    clocks: Vec<K>,
+) -> Result<Run, NoMemory>
+    requires workers { HasWorkers (verb.Run mode) }
+    requires clocks { 34 ≤ length clocks.items }
+    requires order { mode ≡ modes.InOrder → IsSome prepared.now.script.order }
+    requires each { length prepared.now.media.items ≡ length prepared.now.script.chunk_files }
+    requires there { missing_in prepared.now.script prepared.now.media.items ≡ None }
+    ensures legal { IfOk result (λ run. IsLegalRun prepared.now.script run) }
+    ensures fits { IfOk result (λ run. IsRunBy mode (map C.coder coders.items)
+        (record { script = prepared.now.script; media = prepared.now.media.items }) run) }
+{
+    match mode {
+        Mode::InOrder => replay(alloc, &prepared.script, &prepared.media, coders),
+        Mode::Threads(workers) => {
+            let (script, media) = (&prepared.script, &prepared.media);
+            run(rt, alloc, script, media, coders, workers, clocks)
+        }
+    }
+}
 
 // The run of the script in the file of this name.
-fn replayed<F: Files, C: Coder>(
+fn ran<F: Files, C: Coder, K: Clock + Send + Drop, R: Threads + Wait + Sync>(
+    rt: &R,
     alloc: Global,
+    mode: Mode,
     name: &str,
     files: &mut F,
     coders: Vec<C>,
-) -> Result<Replayed, Stop<Fault>>
-    ensures ok { IfOk result (λ d. IsRunOf (reading (to_replay name.now) (F.content files.old)
+    clocks: Vec<K>,
+) -> Result<Ran, Stop<Fault>>
+    requires workers { HasWorkers (verb.Run mode) }
+    requires clocks { 34 ≤ length clocks.items }
+    ensures ok { IfOk result (λ d. IsRunOf mode (reading (to_run mode name.now) (F.content files.old)
         (F.faults files.old) (F.faults files.new)
         (F.bytes_read files.old) (F.bytes_read files.new)
         (F.failed_names files.old) (F.failed_names files.new)) (map C.coder coders.items)
         (record { script = d.prepared.script; media = d.prepared.media.items }) d.run) }
-    ensures stop { IfErr result (λ e. MayStop (reading (to_replay name.now) (F.content files.old)
+    ensures stop { IfErr result (λ e. MayStop (reading (to_run mode name.now) (F.content files.old)
         (F.faults files.old) (F.faults files.new)
         (F.bytes_read files.old) (F.bytes_read files.new)
         (F.failed_names files.old) (F.failed_names files.new)) e) }
 {
-    let prepared = prepare(alloc, name, files)?;
-    let run = replay(alloc, &prepared.script, &prepared.media, coders)?;
-    Ok(Replayed { prepared, run })
+    let prepared = prepare(alloc, mode, name, files)?;
+    let run = run_by(rt, alloc, mode, &prepared, coders, clocks)?;
+    Ok(Ran { prepared, run })
 }
 
 // Ends with the line of usage.
@@ -102,32 +142,37 @@ fn report<S: Sink>(alloc: Global, script: &Script, run: &Run, sink: &mut S) -> u
 }
 
 // Ends with the report of the run of the script in the file of this name, or with the line of why there is none.
-fn replay_named<F: Files, S: Sink, C: Coder>(
+fn run_named<F: Files, S: Sink, C: Coder, K: Clock + Send + Drop, R: Threads + Wait + Sync>(
+    rt: &R,
     alloc: Global,
+    mode: Mode,
     name: &str,
     files: &mut F,
     sink: &mut S,
     coders: Vec<C>,
+    clocks: Vec<K>,
 ) -> u8
+    requires workers { HasWorkers (verb.Run mode) }
+    requires clocks { 34 ≤ length clocks.items }
     ensures headline { Headline
-        (reading (to_replay name.now) (F.content files.old) (F.faults files.old) (F.faults files.new)
+        (reading (to_run mode name.now) (F.content files.old) (F.faults files.old) (F.faults files.new)
         (F.bytes_read files.old) (F.bytes_read files.new)
         (F.failed_names files.old) (F.failed_names files.new)) (map C.coder coders.items)
         (writing (S.told sink.old) (S.told sink.new) (S.faults sink.old) (S.faults sink.new) result) }
     ensures decided { Decides
-        (reading (to_replay name.now) (F.content files.old) (F.faults files.old) (F.faults files.new)
+        (reading (to_run mode name.now) (F.content files.old) (F.faults files.old) (F.faults files.new)
         (F.bytes_read files.old) (F.bytes_read files.new)
         (F.failed_names files.old) (F.failed_names files.new))
         (writing (S.told sink.old) (S.told sink.new) (S.faults sink.old) (S.faults sink.new) result) }
     ensures complete { IsComplete
-        (reading (to_replay name.now) (F.content files.old) (F.faults files.old) (F.faults files.new)
+        (reading (to_run mode name.now) (F.content files.old) (F.faults files.old) (F.faults files.new)
         (F.bytes_read files.old) (F.bytes_read files.new)
         (F.failed_names files.old) (F.failed_names files.new))
         (writing (S.told sink.old) (S.told sink.new) (S.faults sink.old) (S.faults sink.new) result) }
 {
     // The law by which what the files hold decides the status.
     files_have_one_outcome();
-    match replayed(alloc, name, files, coders) {
+    match ran(rt, alloc, mode, name, files, coders, clocks) {
         Ok(done) => report(alloc, &done.prepared.script, &done.run, sink),
         Err(Stop::Fault(fault)) => refuse(alloc, fault, sink),
         Err(Stop::NoMemory) => want_memory(sink),
@@ -176,19 +221,24 @@ fn probe_named<F: Files, S: Sink>(alloc: Global, name: &str, files: &mut F, sink
 /// Carries out the command of these words, and gives the status with which the program ends.
 ///
 /// `words` are those of the command line, without the program's name. `replay FILE` reads the script in FILE, replays it
-/// with these coders, and writes the report of the run: status 0. `probe FILE` reads the media file FILE, and writes the line
-/// that tells what it holds: status 0. Any other words are refused with the line of usage: 2.
-/// A script file that is no JSON or has a fault, a script with no order, a media file that is none or lacks a chunk that is
-/// taken, give 3; a file that is not read 4; a count above its limit 7; each with one line that names the place. Want of
-/// memory gives 6 and the line `out of memory`, also after a part of the report. A sink that fails gives 5, with no further
-/// line.
-pub fn top<F: Files, S: Sink, C: Coder>(
+/// with these coders, and writes the report of the run: status 0. `run FILE --workers N` does so with threads, and wants no
+/// order. `probe FILE` reads the media file FILE, and writes the line that tells what it holds: status 0. Any other words are
+/// refused with the line of usage: 2. There are at least 34 clocks, one for each thread that there may be and one for what is
+/// left then.
+/// A script file that is no JSON or has a fault, a script with no order that is replayed, a media file that is none or lacks a
+/// chunk that is taken, give 3; a file that is not read 4; a count above its limit 7; each with one line that names the place.
+/// Want of memory gives 6 and the line `out of memory`, also after a part of the report. A sink that fails gives 5, with no
+/// further line.
+pub fn top<F: Files, S: Sink, C: Coder, K: Clock + Send + Drop, R: Threads + Wait + Sync>(
+    rt: &R,
     alloc: Global,
     words: &[String],
     files: &mut F,
     sink: &mut S,
     coders: Vec<C>,
+    clocks: Vec<K>,
 ) -> u8
+    requires clocks { 34 ≤ length clocks.items }
     ensures headline { Headline
         (reading (command_of (words_of words.now)) (F.content files.old) (F.faults files.old) (F.faults files.new)
         (F.bytes_read files.old) (F.bytes_read files.new)
@@ -206,7 +256,9 @@ pub fn top<F: Files, S: Sink, C: Coder>(
         (writing (S.told sink.old) (S.told sink.new) (S.faults sink.old) (S.faults sink.new) result) }
 {
     match command_of(words) {
-        Some((Verb::Replay, name)) => replay_named(alloc, name, files, sink, coders),
+        Some((Verb::Run(mode), name)) => {
+            run_named(rt, alloc, mode, name, files, sink, coders, clocks)
+        }
         Some((Verb::Probe, name)) => probe_named(alloc, name, files, sink),
         None => usage(sink),
     }

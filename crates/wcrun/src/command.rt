@@ -1,13 +1,22 @@
 // The words of the command line.
-ghost use Rattle.std.specs.Prelude.{◌≡◌, option_map};
-ghost use Rattle.wcrun.specs.Words.{words_of, is_dashed, command, command_of};
+ghost use Rattle.std.specs.Prelude.{◌≡◌, ◌≤◌, IfSome, option_map};
+ghost use Rattle.wcrun.specs.Words.{words_of, is_dashed, command, command_of, HasWorkers};
 ghost use Rattle.wcrun.specs.Words as spec;
+
+/// How a script is run.
+#[derive(Clone, Copy, Debug, PartialEq, Eq)]
+pub enum Mode {
+    /// On one thread, item after item of its order.
+    InOrder,
+    /// With a thread for each caller, for a turner and for each of so many workers.
+    Threads(u32),
+}
 
 /// What is to be done with a file.
 #[derive(Clone, Copy, Debug, PartialEq, Eq)]
 pub enum Verb {
-    /// The script in it is replayed.
-    Replay,
+    /// The script in it is run.
+    Run(Mode),
     /// What it holds as a media file is told.
     Probe,
 }
@@ -21,28 +30,155 @@ fn starts_with_dash(word: &str) -> bool
     }
 }
 
+// What is to be done with a file of which the words say no more.
 fn verb_of(word: &str) -> Option<Verb>
-    ensures { result ≡ spec.verb_of word.now }
+    ensures told { result ≡ spec.verb_of word.now }
+    ensures few { IfSome result HasWorkers }
 {
     match word {
-        "replay" => Some(Verb::Replay),
+        "replay" => Some(Verb::Run(Mode::InOrder)),
+        "run" => Some(Verb::Run(Mode::Threads(4))),
         "probe" => Some(Verb::Probe),
         _ => None,
     }
 }
 
-/// The command of `replay FILE` or `probe FILE` with its file, where the words are just these two.
+// A number of workers: plain digits, from 1 to 16.
+#[tactic(auto, unfolding(crate::specs::Words::workers_of))]
+fn workers_of(word: &str) -> Option<u32>
+    ensures told { result ≡ spec.workers_of word.now }
+    ensures few { IfSome result (λ n. (1 ≤ n) × (n ≤ 16)) }
+{
+    match word {
+        "1" => Some(1),
+        "2" => Some(2),
+        "3" => Some(3),
+        "4" => Some(4),
+        "5" => Some(5),
+        "6" => Some(6),
+        "7" => Some(7),
+        "8" => Some(8),
+        "9" => Some(9),
+        "10" => Some(10),
+        "11" => Some(11),
+        "12" => Some(12),
+        "13" => Some(13),
+        "14" => Some(14),
+        "15" => Some(15),
+        "16" => Some(16),
+        _ => None,
+    }
+}
+
+// The number of workers in the option's one word.
+#[tactic(auto, unfolding(crate::specs::Words::option_of))]
+fn option_of(word: &str) -> Option<u32>
+    ensures told { result ≡ spec.option_of word.now }
+    ensures few { IfSome result (λ n. (1 ≤ n) × (n ≤ 16)) }
+{
+    match word {
+        "--workers=1" => Some(1),
+        "--workers=2" => Some(2),
+        "--workers=3" => Some(3),
+        "--workers=4" => Some(4),
+        "--workers=5" => Some(5),
+        "--workers=6" => Some(6),
+        "--workers=7" => Some(7),
+        "--workers=8" => Some(8),
+        "--workers=9" => Some(9),
+        "--workers=10" => Some(10),
+        "--workers=11" => Some(11),
+        "--workers=12" => Some(12),
+        "--workers=13" => Some(13),
+        "--workers=14" => Some(14),
+        "--workers=15" => Some(15),
+        "--workers=16" => Some(16),
+        _ => None,
+    }
+}
+
+// Whether this is the word of a run with threads, or of its option.
+fn is_word(word: &str, wanted: &str) -> bool
+    ensures { result ≡ spec.is_word word.now wanted.now }
+{
+    word == wanted
+}
+
+// A command on a file, unless that word begins with a dash.
+fn on_file(file: &str, verb: Option<Verb>) -> Option<(Verb, &str)>
+    requires { IfSome verb HasWorkers }
+    ensures told { option_map (λ c. command c.0 c.1.now) result ≡ spec.on_file file.now verb }
+    ensures few { IfSome result (λ c. HasWorkers c.0) }
+{
+    if starts_with_dash(file) {
+        return None;
+    }
+    match verb {
+        Some(verb) => Some((verb, file)),
+        None => None,
+    }
+}
+
+fn threads(workers: Option<u32>) -> Option<Verb>
+    requires { IfSome workers (λ n. (1 ≤ n) × (n ≤ 16)) }
+    ensures told { result ≡ option_map spec.threads workers }
+    ensures few { IfSome result HasWorkers }
+{
+    match workers {
+        Some(workers) => Some(Verb::Run(Mode::Threads(workers))),
+        None => None,
+    }
+}
+
+// A run of a file with the option as one word, in any order.
+#[tactic(auto, unfolding(crate::specs::Words::with_one))]
+fn with_one<'a>(first: &'a str, second: &'a str) -> Option<(Verb, &'a str)>
+    ensures told { option_map (λ c. command c.0 c.1.now) result ≡ spec.with_one first.now second.now }
+    ensures few { IfSome result (λ c. HasWorkers c.0) }
+{
+    if starts_with_dash(first) {
+        on_file(second, threads(option_of(first)))
+    } else {
+        on_file(first, threads(option_of(second)))
+    }
+}
+
+// A run of a file with the option as two words, in any order.
+#[tactic(auto, unfolding(crate::specs::Words::with_two))]
+fn with_two<'a>(first: &'a str, second: &'a str, third: &'a str) -> Option<(Verb, &'a str)>
+    ensures told { option_map (λ c. command c.0 c.1.now) result
+        ≡ spec.with_two first.now second.now third.now }
+    ensures few { IfSome result (λ c. HasWorkers c.0) }
+{
+    if is_word(first, "--workers") {
+        on_file(third, threads(workers_of(second)))
+    } else if is_word(second, "--workers") {
+        on_file(first, threads(workers_of(third)))
+    } else {
+        None
+    }
+}
+
+/// The command of `replay FILE`, `probe FILE` or `run FILE --workers N` with its file, where the words are just these. The option
+/// may stand before FILE or after it, as two words or as `--workers=N`; without it there are four workers.
 pub fn command_of(words: &[String]) -> Option<(Verb, &str)>
-    ensures { option_map (λ c. command c.0 c.1.now) result ≡ command_of (words_of words.now) }
+    ensures told { option_map (λ c. command c.0 c.1.now) result ≡ command_of (words_of words.now) }
+    ensures few { IfSome result (λ c. HasWorkers c.0) }
 {
     match words {
-        [word, file] => {
-            if starts_with_dash(file.as_str()) {
-                return None;
+        [word, file] => on_file(file.as_str(), verb_of(word.as_str())),
+        [word, first, second] => {
+            if is_word(word.as_str(), "run") {
+                with_one(first.as_str(), second.as_str())
+            } else {
+                None
             }
-            match verb_of(word.as_str()) {
-                Some(verb) => Some((verb, file.as_str())),
-                None => None,
+        }
+        [word, first, second, third] => {
+            if is_word(word.as_str(), "run") {
+                with_two(first.as_str(), second.as_str(), third.as_str())
+            } else {
+                None
             }
         }
         _ => None,

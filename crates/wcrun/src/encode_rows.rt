@@ -252,5 +252,5 @@ fn encodes_go_as_the_order_says(rt: HostRuntime) -> Result<(), Fail> {
         (REFUSED_AND_TAKEN, 0, REFUSED_AND_TAKEN_REPORT),
         (FLAC_ENCODER, 0, FLAC_ENCODER_REPORT),
     ];
-    each_ends(&rt, rt.alloc(), &rows)
+    each_ends(&rt, &rows)
 }

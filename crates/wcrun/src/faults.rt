@@ -1,18 +1,26 @@
 // Scripts and chunk files with a fault, and what is said of each.
 use crate::tests::{call_on, each_ends};
 use std::alloc::Global;
+use std::sync::Wait;
 use std::test::Fail;
+use std::thread::Threads;
 use wc_base::MemSink;
 
 // The status and the text for a script, with a chunk file `f`.
-fn told(alloc: Global, script: &str, f: &[u8], reads: Vec<u64>) -> Result<(u8, MemSink), Fail> {
+fn told(
+    rt: &(impl Threads + Wait + Sync + Alloc<A = Global>),
+    script: &str,
+    f: &[u8],
+    reads: Vec<u64>,
+) -> Result<(u8, MemSink), Fail> {
+    let alloc = rt.alloc();
     let script = (
         String::from_str(alloc, "s.json")?,
         Vec::from_slice(alloc, script.as_bytes())?,
     );
     let f = (String::from_str(alloc, "f")?, Vec::from_slice(alloc, f)?);
     call_on(
-        alloc,
+        rt,
         vec![in alloc; script, f]?,
         &["replay", "s.json"],
         reads,
@@ -50,7 +58,7 @@ fn cut_text(n: usize) -> &'static str {
 fn each_cut_of_a_chunk_file_is_named(rt: HostRuntime) -> Result<(), Fail> {
     let alloc = rt.alloc();
     for n in 0..27_usize {
-        let (status, sink) = told(alloc, TAKES, &EMPTY[..n], Vec::new(alloc))?;
+        let (status, sink) = told(&rt, TAKES, &EMPTY[..n], Vec::new(alloc))?;
         assert_eq!(rt; status, if n < 26 { 3 } else { 0 }, "at {n}");
         assert_eq!(rt; sink.bytes(), cut_text(n).as_bytes(), "at {n}");
     }
@@ -60,13 +68,13 @@ fn each_cut_of_a_chunk_file_is_named(rt: HostRuntime) -> Result<(), Fail> {
 #[test]
 fn other_faults_of_a_chunk_file(rt: HostRuntime) -> Result<(), Fail> {
     let alloc = rt.alloc();
-    let (status, sink) = told(alloc, TAKES, b"WCC1\x02", Vec::new(alloc))?;
+    let (status, sink) = told(&rt, TAKES, b"WCC1\x02", Vec::new(alloc))?;
     assert_eq!(rt; status, 3);
     assert_eq!(rt;
         sink.bytes(),
         b"script: chunks f bad kind at 4\n".as_slice()
     );
-    let (status, sink) = told(alloc, TAKES, EMPTY, vec![in alloc; 1]?)?;
+    let (status, sink) = told(&rt, TAKES, EMPTY, vec![in alloc; 1]?)?;
     assert_eq!(rt; status, 4);
     assert_eq!(rt; sink.bytes(), b"read fault: f\n".as_slice());
     let mut long = Vec::from_slice(alloc, &EMPTY[..22])?;
@@ -74,7 +82,7 @@ fn other_faults_of_a_chunk_file(rt: HostRuntime) -> Result<(), Fail> {
         long.push(byte)?;
     }
     long.resize(26 + 16_777_217, 0)?;
-    let (status, sink) = told(alloc, TAKES, &long, Vec::new(alloc))?;
+    let (status, sink) = told(&rt, TAKES, &long, Vec::new(alloc))?;
     assert_eq!(rt; status, 7);
     assert_eq!(rt; sink.bytes(), b"limit: chunk 16777217\n".as_slice());
     Ok(())
@@ -113,21 +121,21 @@ const UNKNOWN: &str = "{\"do\":\"x\"}";
 
 // The status and the text for two steps, or for the first alone.
 fn told_of(
-    alloc: Global,
+    rt: &(impl Threads + Wait + Sync + Alloc<A = Global>),
     first: &str,
     second: Option<&str>,
     turns: usize,
 ) -> Result<(u8, MemSink), Fail> {
+    let alloc = rt.alloc();
     let script = match second {
         Some(second) => with_steps(alloc, &[first, second], turns)?,
         None => with_steps(alloc, &[first], turns)?,
     };
-    told(alloc, script.as_str(), EMPTY, Vec::new(alloc))
+    told(rt, script.as_str(), EMPTY, Vec::new(alloc))
 }
 
 #[test]
 fn each_fault_of_a_script_is_named(rt: HostRuntime) -> Result<(), Fail> {
-    let alloc = rt.alloc();
     let rows: [(&str, Option<&str>, usize, &str); 6] = [
         (CHUNK, Some(CHUNK), 2, "script: twice at step 0 1\n"),
         (DECODE, None, 1, "script: unknown name at step 0 0\n"),
@@ -137,7 +145,7 @@ fn each_fault_of_a_script_is_named(rt: HostRuntime) -> Result<(), Fail> {
         (POLL, None, 1, "script: unknown name at step 0 0\n"),
     ];
     for (first, second, turns, text) in rows {
-        let (status, sink) = told_of(alloc, first, second, turns)?;
+        let (status, sink) = told_of(&rt, first, second, turns)?;
         assert_eq!(rt; status, 3, "at {text}");
         assert_eq!(rt; sink.bytes(), text.as_bytes(), "at {text}");
     }
@@ -173,5 +181,5 @@ fn faults_of_the_whole_are_named(rt: HostRuntime) -> Result<(), Fail> {
             "limit: callers 17\n",
         ),
     ];
-    each_ends(&rt, rt.alloc(), &rows)
+    each_ends(&rt, &rows)
 }

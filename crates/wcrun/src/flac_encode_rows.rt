@@ -4,7 +4,9 @@
 use crate::tests::call_on;
 use std::alloc::Global;
 use std::process::Abort;
+use std::sync::Wait;
 use std::test::Fail;
+use std::thread::Threads;
 
 // A piece of a text, so many times. Each `#` in it stands for the next of these numbers, which grow by their steps from one
 // time to the next; `<` and `>` stand for `FIRST_VALUES` and `OTHER_VALUES`, and `*` in a report for any byte.
@@ -833,14 +835,19 @@ fn agrees(bytes: &[u8], text: &[u8]) -> bool {
 }
 
 // Replays a script, and compares what is written.
-fn is_told(rt: &impl Abort, alloc: Global, script: &[Piece], report: &[Piece]) -> Result<(), Fail> {
+fn is_told(
+    rt: &(impl Threads + Wait + Sync + Abort + Alloc<A = Global>),
+    script: &[Piece],
+    report: &[Piece],
+) -> Result<(), Fail> {
+    let alloc = rt.alloc();
     let script = text_of(alloc, script)?;
     let report = text_of(alloc, report)?;
     let name = String::from_str(alloc, "s.json")?;
     let media = (String::from_str(alloc, "f")?, chunk_file(alloc)?);
     let files = vec![in alloc; (name, script.into_bytes()), media]?;
     let words = ["replay", "s.json"];
-    let (answer, sink) = call_on(alloc, files, &words, Vec::new(alloc), Vec::new(alloc))?;
+    let (answer, sink) = call_on(rt, files, &words, Vec::new(alloc), Vec::new(alloc))?;
     assert!(rt; agrees(sink.bytes(), report.as_bytes()), "at {report}");
     assert_eq!(rt; answer, 0, "at {report}");
     Ok(())
@@ -848,14 +855,13 @@ fn is_told(rt: &impl Abort, alloc: Global, script: &[Piece], report: &[Piece]) -
 
 #[test]
 fn flac_is_encoded_or_refused(rt: HostRuntime) -> Result<(), Fail> {
-    let alloc = rt.alloc();
-    is_told(&rt, alloc, &ENCODING, &ENCODING_REPORT)?;
-    is_told(&rt, alloc, &BLOCKS, &BLOCKS_REPORT)?;
-    is_told(&rt, alloc, &OTHER_CHANNELS, &OTHER_CHANNELS_REPORT)?;
-    is_told(&rt, alloc, &NINE_CHANNELS, &NINE_CHANNELS_REPORT)
+    is_told(&rt, &ENCODING, &ENCODING_REPORT)?;
+    is_told(&rt, &BLOCKS, &BLOCKS_REPORT)?;
+    is_told(&rt, &OTHER_CHANNELS, &OTHER_CHANNELS_REPORT)?;
+    is_told(&rt, &NINE_CHANNELS, &NINE_CHANNELS_REPORT)
 }
 
 #[test]
 fn a_transcode_keeps_each_sample(rt: HostRuntime) -> Result<(), Fail> {
-    is_told(&rt, rt.alloc(), &TRANSCODE, &TRANSCODE_REPORT)
+    is_told(&rt, &TRANSCODE, &TRANSCODE_REPORT)
 }

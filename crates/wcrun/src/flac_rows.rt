@@ -156,5 +156,5 @@ fn frames_are_decoded_or_refused(rt: HostRuntime) -> Result<(), Fail> {
         (BYTE_BEHIND, 0, REFUSED_REPORT),
         (ONE_BOX, 0, ONE_BOX_REPORT),
     ];
-    each_ends(&rt, rt.alloc(), &rows)
+    each_ends(&rt, &rows)
 }

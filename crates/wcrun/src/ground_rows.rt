@@ -150,5 +150,5 @@ fn codecs_are_reclaimed_by_their_grounds(rt: HostRuntime) -> Result<(), Fail> {
         (NO_GROUND, 3, "script: shape at step 0 0\n"),
         (NO_CODEC, 3, "script: unknown name at step 0 0\n"),
     ];
-    each_ends(&rt, rt.alloc(), &rows)
+    each_ends(&rt, &rows)
 }

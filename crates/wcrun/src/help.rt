@@ -9,6 +9,9 @@ Replays calls on W3C WebCodecs codecs, step by step, and writes a report of all 
 
   wcrun replay FILE    replays the JSON script FILE; the report goes to standard output
                        files of chunks that the script names are looked for in the current folder
+  wcrun run FILE --workers N
+                       runs it with threads: one for each caller, for events, and for each of N workers, 1 to 16
+                       (4 where the option is left out); an order is not followed
   wcrun probe FILE     tells what a WAV file, a native FLAC file or a chunk file holds, in one line
 
 A FILE that begins with - is written ./-NAME.

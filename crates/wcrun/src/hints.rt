@@ -56,10 +56,10 @@ fn held_by<F: Files>(alloc: Global, files: &mut F, fault: &Fault) -> Option<usiz
     }
 }
 
-// The fault for which the script in this file was not replayed, or for which the media file has no line.
+// The fault for which the script in this file was not run, or for which the media file has no line.
 fn fault_of<F: Files>(alloc: Global, files: &mut F, verb: Verb, name: &str) -> Option<Fault> {
     match verb {
-        Verb::Replay => match prepare(alloc, name, files) {
+        Verb::Run(mode) => match prepare(alloc, mode, name, files) {
             Err(Stop::Fault(fault)) => Some(fault),
             _ => None,
         },
@@ -83,7 +83,7 @@ fn tell_fault<R: rt::Files + Eprint>(rt: &R, alloc: Global, verb: Verb, name: &s
     let held = held_by(alloc, &mut files, &fault);
     // of a script above its limit nothing is looked at
     let text = match verb {
-        Verb::Replay => files
+        Verb::Run(_) => files
             .read_all(alloc, name, MOST_SCRIPT)
             .unwrap_or(Vec::new(alloc)),
         Verb::Probe => Vec::new(alloc),
@@ -91,7 +91,7 @@ fn tell_fault<R: rt::Files + Eprint>(rt: &R, alloc: Global, verb: Verb, name: &s
     if let Ok(lines) = fault_hints(alloc, name, &text, &fault, held) {
         write(rt, &lines);
     }
-    verb == Verb::Replay && fault != Fault::NotJson
+    verb != Verb::Probe && fault != Fault::NotJson
 }
 
 fn warn<R: rt::Files + Eprint>(rt: &R, alloc: Global, name: &str) {
@@ -118,7 +118,7 @@ pub fn tell<R: rt::Files + Eprint>(rt: &R, alloc: Global, words: &[String], stat
     };
     let warns = match status {
         3 | 4 | 7 => tell_fault(rt, alloc, verb, name),
-        _ => status == 0 && verb == Verb::Replay,
+        _ => status == 0 && verb != Verb::Probe,
     };
     if warns {
         warn(rt, alloc, name);

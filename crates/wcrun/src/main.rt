@@ -1,7 +1,9 @@
-//! Replays a script of calls on codecs, and writes the report of the run; or tells what a media file holds.
+//! Runs a script of calls on codecs, in its order or with threads, and writes the report of the run; or tells what a media file
+//! holds.
 #![tactic(auto)]
 
 mod calls;
+mod clock;
 mod codecs;
 #[cfg(test)]
 mod coder_rows;
@@ -40,11 +42,15 @@ mod video_rows;
 
 pub use calls::top;
 use calls::want_memory;
+use clock::SystemClock;
 use codecs::{all_codecs, coder_box, kind_of};
 pub use refusal::Refusal;
 use std::alloc::Global;
 use std::process::ExitCode;
-use std::rt::Env;
+use std::rt::{self, Env};
+use std::sync::Wait;
+use std::thread::Threads;
+use std::time::Instant;
 use std::{env, io};
 use wc_base::{NoMemory, Output, Sink, SystemFiles};
 use wc_config::Role;
@@ -70,7 +76,11 @@ fn command_words(rt: &(impl Env + Alloc<A = Global>)) -> Result<Vec<String>, NoM
 }
 
 // Carries out the command with eight boxes of each coder.
-fn carry_out<S: Sink>(rt: &HostRuntime, words: &[String], sink: &mut S) -> u8 {
+fn carry_out<S: Sink, R: Threads + Wait + Sync + rt::Files + rt::Clock + Alloc<A = Global>>(
+    rt: &R,
+    words: &[String],
+    sink: &mut S,
+) -> u8 {
     let alloc = rt.alloc();
     // A function that handed out boxed coders would be refused: nothing could be told of what is in them.
     let mut coders = Vec::new(alloc);
@@ -85,8 +95,12 @@ fn carry_out<S: Sink>(rt: &HostRuntime, words: &[String], sink: &mut S) -> u8 {
             }
         }
     }
+    let clock = SystemClock::since(rt, Instant::now(rt).ok());
+    let Ok(clocks) = vec![in alloc; clock; 34] else {
+        return want_memory(sink);
+    };
     let mut files = SystemFiles::new(alloc, rt);
-    top(alloc, words, &mut files, sink, coders)
+    top(rt, alloc, words, &mut files, sink, coders, clocks)
 }
 
 fn main(rt: HostRuntime) -> ExitCode {

@@ -253,5 +253,5 @@ fn media_of_callers_go_as_the_order_says(rt: HostRuntime) -> Result<(), Fail> {
         (FRAME, 0, FRAME_REPORT),
         (BESIDE_A_DECODER, 0, BESIDE_A_DECODER_REPORT),
     ];
-    each_ends(&rt, rt.alloc(), &rows)
+    each_ends(&rt, &rows)
 }

@@ -1,7 +1,9 @@
 // Files of sound, told by `probe` and taken by scripts.
 use crate::tests::{call, call_on};
 use std::alloc::Global;
+use std::sync::Wait;
 use std::test::Fail;
+use std::thread::Threads;
 use wc_base::MemSink;
 
 // A WAV file of two frames of 16 bits.
@@ -39,7 +41,7 @@ fn each_file_is_told(rt: HostRuntime) -> Result<(), Fail> {
     for (bytes, status, text) in rows {
         let file = bytes.to_vec(alloc)?;
         let words = ["probe", "s.json"];
-        let (answer, sink) = call(alloc, file, &words, Vec::new(alloc), Vec::new(alloc))?;
+        let (answer, sink) = call(&rt, file, &words, Vec::new(alloc), Vec::new(alloc))?;
         assert_eq!(rt; answer, status, "at {text}");
         assert_eq!(rt; sink.bytes(), text.as_bytes(), "at {text}");
     }
@@ -47,23 +49,22 @@ fn each_file_is_told(rt: HostRuntime) -> Result<(), Fail> {
 }
 
 // The status and the text of a probe whose read or write of this number fails.
-fn failing(alloc: Global, reads: Vec<u64>, writes: Vec<u64>) -> Result<(u8, MemSink), Fail> {
-    call(
-        alloc,
-        WAV.to_vec(alloc)?,
-        &["probe", "s.json"],
-        reads,
-        writes,
-    )
+fn failing(
+    rt: &(impl Threads + Wait + Sync + Alloc<A = Global>),
+    reads: Vec<u64>,
+    writes: Vec<u64>,
+) -> Result<(u8, MemSink), Fail> {
+    let alloc = rt.alloc();
+    call(rt, WAV.to_vec(alloc)?, &["probe", "s.json"], reads, writes)
 }
 
 #[test]
 fn a_probe_that_fails(rt: HostRuntime) -> Result<(), Fail> {
     let alloc = rt.alloc();
-    let (answer, sink) = failing(alloc, vec![in alloc; 0]?, Vec::new(alloc))?;
+    let (answer, sink) = failing(&rt, vec![in alloc; 0]?, Vec::new(alloc))?;
     assert_eq!(rt; answer, 4);
     assert_eq!(rt; sink.bytes(), b"read fault: s.json\n".as_slice());
-    let (answer, sink) = failing(alloc, Vec::new(alloc), vec![in alloc; 0]?)?;
+    let (answer, sink) = failing(&rt, Vec::new(alloc), vec![in alloc; 0]?)?;
     assert_eq!(rt; answer, 5);
     assert!(rt; b"wav pcm-s16 8000 1 chunks 1 frames 2\n".starts_with(sink.bytes()));
     Ok(())
@@ -92,7 +93,7 @@ fn scripts_take_chunks_of_sound(rt: HostRuntime) -> Result<(), Fail> {
         );
         let f = (String::from_str(alloc, "f")?, bytes.to_vec(alloc)?);
         let (answer, sink) = call_on(
-            alloc,
+            &rt,
             vec![in alloc; script, f]?,
             &["replay", "s.json"],
             Vec::new(alloc),

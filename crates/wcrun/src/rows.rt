@@ -518,7 +518,7 @@ fn calls_are_answered_as_the_codec_stands(rt: HostRuntime) -> Result<(), Fail> {
         (KEY_RULE, 0, KEY_RULE_REPORT),
         (TWO_FLUSHES_THEN_CLOSE, 0, TWO_FLUSHES_THEN_CLOSE_REPORT),
     ];
-    each_ends(&rt, rt.alloc(), &rows)
+    each_ends(&rt, &rows)
 }
 
 #[test]
@@ -535,5 +535,5 @@ fn items_tasks_and_boxes_go_as_the_order_says(rt: HostRuntime) -> Result<(), Fai
         (CHANGE_OF_CODER, 0, CHANGE_OF_CODER_REPORT),
         (CODER_WITHOUT_A_BOX, 0, CODER_WITHOUT_A_BOX_REPORT),
     ];
-    each_ends(&rt, rt.alloc(), &rows)
+    each_ends(&rt, &rows)
 }

@@ -129,5 +129,5 @@ end
 #[test]
 fn outputs_are_taken_in_the_order_in_which_they_are_shown(rt: HostRuntime) -> Result<(), Fail> {
     let rows = [(SOUND, 0, SOUND_REPORT), (PICTURE, 0, PICTURE_REPORT)];
-    each_ends(&rt, rt.alloc(), &rows)
+    each_ends(&rt, &rows)
 }

@@ -1,9 +1,12 @@
 // Whole calls on files and sinks in memory.
 use crate::codecs::{all_codecs, coder_box, kind_of};
 use crate::top;
+use codec_desk::Clock;
 use std::alloc::Global;
 use std::process::Abort;
+use std::sync::Wait;
 use std::test::Fail;
+use std::thread::Threads;
 use wc_base::{MemFiles, MemSink, NoMemory};
 use wc_config::{CodecId, Role};
 
@@ -104,26 +107,53 @@ held 0
 end
 ";
 
+// A script with no order, of which each run has the same report.
+const UNORDERED: &str =
+    "{\"codecs\":[],\"callers\":[{\"name\":\"a\",\"steps\":[{\"do\":\"chunk\",\"as\":\"c\",\"init\":{\"type\":\"key\",\"timestamp\":0,\"data\":\"01\"}},
+{\"do\":\"copy\",\"of\":\"c\",\"size\":1}]},{\"name\":\"b\",\"steps\":[]}]}";
+
+const UNORDERED_REPORT: &str =
+    "wcrun report 1\ncaller a\n0 ok\n1 copied 1 01\ncaller b\npool\nslots\nheld 0\nend\n";
+
+// Tells one moment after another.
+#[derive(Clone, Copy)]
+struct Ticks {
+    last: u64,
+}
+
+impl Clock for Ticks {
+    ghost use Rattle.std.specs.Prelude.{None};
+
+    ghost told = { λ _. None };
+
+    fn now(&mut self) -> u64 {
+        self.last = self.last.wrapping_add(1);
+        self.last
+    }
+}
+
 // Ends a call on files that hold one script, with these reads and writes failing, and with twelve coders.
 pub(crate) fn call(
-    alloc: Global,
+    rt: &(impl Threads + Wait + Sync + Alloc<A = Global>),
     file: Vec<u8>,
     words: &[&str],
     reads: Vec<u64>,
     writes: Vec<u64>,
 ) -> Result<(u8, MemSink), Fail> {
+    let alloc = rt.alloc();
     let name = String::from_str(alloc, "s.json")?;
-    call_on(alloc, vec![in alloc; (name, file)]?, words, reads, writes)
+    call_on(rt, vec![in alloc; (name, file)]?, words, reads, writes)
 }
 
 // The same on these files.
 pub(crate) fn call_on(
-    alloc: Global,
+    rt: &(impl Threads + Wait + Sync + Alloc<A = Global>),
     entries: Vec<(String, Vec<u8>)>,
     words: &[&str],
     reads: Vec<u64>,
     writes: Vec<u64>,
 ) -> Result<(u8, MemSink), Fail> {
+    let alloc = rt.alloc();
     let mut given = Vec::new(alloc);
     for word in words {
         given.push(String::from_str(alloc, word)?)?;
@@ -141,20 +171,21 @@ pub(crate) fn call_on(
             coders.push(coder)?;
         }
     }
-    let status = top(alloc, &given, &mut files, &mut sink, coders);
+    let clocks = vec![in alloc; Ticks { last: 0 }; 34]?;
+    let status = top(rt, alloc, &given, &mut files, &mut sink, coders, clocks);
     Ok((status, sink))
 }
 
 // Replays each script, and compares the status and what is written.
 pub(crate) fn each_ends(
-    rt: &impl Abort,
-    alloc: Global,
+    rt: &(impl Threads + Wait + Sync + Abort + Alloc<A = Global>),
     rows: &[(&str, u8, &str)],
 ) -> Result<(), Fail> {
+    let alloc = rt.alloc();
     for (script, status, text) in rows {
         let file = Vec::from_slice(alloc, script.as_bytes())?;
         let words = ["replay", "s.json"];
-        let (answer, sink) = call(alloc, file, &words, Vec::new(alloc), Vec::new(alloc))?;
+        let (answer, sink) = call(rt, file, &words, Vec::new(alloc), Vec::new(alloc))?;
         assert_eq!(rt; sink.bytes(), text.as_bytes(), "at {text}");
         assert_eq!(rt; answer, *status, "at {text}");
     }
@@ -167,7 +198,7 @@ fn each_call_ends_with_its_status_and_text(rt: HostRuntime) -> Result<(), Fail> 
     let usage =
         "usage: wcrun replay FILE | run FILE --workers N | load START N | check SCRIPT REPORT | probe FILE\n";
     let replay = ["replay", "s.json"];
-    let rows: [(&[&str], &str, u8, &str); 9] = [
+    let rows: [(&[&str], &str, u8, &str); 10] = [
         (&replay, ORDINARY, 0, ORDINARY_REPORT),
         (&replay, ULAW, 0, ULAW_REPORT),
         (&replay, UNCONFIGURED, 0, UNCONFIGURED_REPORT),
@@ -177,10 +208,40 @@ fn each_call_ends_with_its_status_and_text(rt: HostRuntime) -> Result<(), Fail> 
         (&["replay", "-s"], ORDINARY, 2, usage),
         (&["replay"], ORDINARY, 2, usage),
         (&[], ORDINARY, 2, usage),
+        (&replay, UNORDERED, 3, "script: shape at top\n"),
     ];
     for (words, script, status, text) in rows {
         let file = Vec::from_slice(alloc, script.as_bytes())?;
-        let (answer, sink) = call(alloc, file, words, Vec::new(alloc), Vec::new(alloc))?;
+        let (answer, sink) = call(&rt, file, words, Vec::new(alloc), Vec::new(alloc))?;
+        assert_eq!(rt; answer, status, "at {text}");
+        assert_eq!(rt; sink.bytes(), text.as_bytes(), "at {text}");
+    }
+    Ok(())
+}
+
+#[test]
+fn each_run_with_threads_ends_with_its_status_and_text(rt: HostRuntime) -> Result<(), Fail> {
+    let alloc = rt.alloc();
+    let usage =
+        "usage: wcrun replay FILE | run FILE --workers N | load START N | check SCRIPT REPORT | probe FILE\n";
+    let rows: [(&[&str], u8, &str); 13] = [
+        (&["run", "s.json"], 0, UNORDERED_REPORT),
+        (&["run", "s.json", "--workers", "1"], 0, UNORDERED_REPORT),
+        (&["run", "s.json", "--workers=16"], 0, UNORDERED_REPORT),
+        (&["run", "--workers", "2", "s.json"], 0, UNORDERED_REPORT),
+        (&["run", "--workers=4", "s.json"], 0, UNORDERED_REPORT),
+        (&["run", "other"], 4, "read fault: other\n"),
+        (&["run"], 2, usage),
+        (&["run", "-s"], 2, usage),
+        (&["run", "s.json", "--workers"], 2, usage),
+        (&["run", "s.json", "--workers", "0"], 2, usage),
+        (&["run", "s.json", "--workers", "17"], 2, usage),
+        (&["run", "s.json", "--workers=04"], 2, usage),
+        (&["run", "s.json", "s.json", "--workers=4"], 2, usage),
+    ];
+    for (words, status, text) in rows {
+        let file = Vec::from_slice(alloc, UNORDERED.as_bytes())?;
+        let (answer, sink) = call(&rt, file, words, Vec::new(alloc), Vec::new(alloc))?;
         assert_eq!(rt; answer, status, "at {text}");
         assert_eq!(rt; sink.bytes(), text.as_bytes(), "at {text}");
     }
@@ -192,7 +253,7 @@ fn a_script_above_the_limit_is_too_long(rt: HostRuntime) -> Result<(), Fail> {
     let alloc = rt.alloc();
     let file = vec![in alloc; b' '; 16_777_217]?;
     let (answer, sink) = call(
-        alloc,
+        &rt,
         file,
         &["replay", "s.json"],
         Vec::new(alloc),
@@ -209,7 +270,7 @@ fn each_failing_write_leaves_a_beginning_of_the_report(rt: HostRuntime) -> Resul
     for n in 0..ORDINARY_LINES {
         let file = Vec::from_slice(alloc, ORDINARY.as_bytes())?;
         let writes = vec![in alloc; n]?;
-        let (answer, sink) = call(alloc, file, &["replay", "s.json"], Vec::new(alloc), writes)?;
+        let (answer, sink) = call(&rt, file, &["replay", "s.json"], Vec::new(alloc), writes)?;
         assert_eq!(rt; answer, 5, "at {n}");
         assert!(rt;
             ORDINARY_REPORT.as_bytes().starts_with(sink.bytes()),
@@ -225,7 +286,7 @@ fn a_failing_read_is_answered(rt: HostRuntime) -> Result<(), Fail> {
     let alloc = rt.alloc();
     let file = Vec::from_slice(alloc, ORDINARY.as_bytes())?;
     let reads = vec![in alloc; 0]?;
-    let (answer, sink) = call(alloc, file, &["replay", "s.json"], reads, Vec::new(alloc))?;
+    let (answer, sink) = call(&rt, file, &["replay", "s.json"], reads, Vec::new(alloc))?;
     assert_eq!(rt; answer, 4);
     assert_eq!(rt; sink.bytes(), b"read fault: s.json\n".as_slice());
     Ok(())

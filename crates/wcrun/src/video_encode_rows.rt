@@ -411,5 +411,5 @@ fn frames_are_encoded_as_the_order_says(rt: HostRuntime) -> Result<(), Fail> {
         (TRANSCODE, 0, TRANSCODE_REPORT),
         (REFUSED, 0, REFUSED_REPORT),
     ];
-    each_ends(&rt, rt.alloc(), &rows)
+    each_ends(&rt, &rows)
 }

@@ -565,7 +565,7 @@ fn key_chunks_are_wanted_and_looked_at(rt: HostRuntime) -> Result<(), Fail> {
         (OTHER_FIRST_BYTE, 0, REFUSED_REPORT),
         (SQUARE, 0, SQUARE_REPORT),
     ];
-    each_ends(&rt, rt.alloc(), &rows)
+    each_ends(&rt, &rows)
 }
 
 #[test]
@@ -577,5 +577,5 @@ fn each_format_is_decoded_where_its_config_is_supported(rt: HostRuntime) -> Resu
         (TOO_WIDE, 0, UNSUPPORTED_REPORT),
         (INVALID_CONFIGS, 0, INVALID_CONFIGS_REPORT),
     ];
-    each_ends(&rt, rt.alloc(), &rows)
+    each_ends(&rt, &rows)
 }

@@ -8,7 +8,7 @@ use Rattle.wcrun.proofs.prepare.prepare.Goals as goal
 
 pub returns-in-Err-clause-stop : goal.returns-in-Err-clause-stop
 returns-in-Err-clause-stop g c =
-    stops (g.F.Files.content c.args.files.now) c.args.name.now c.in_ok-script.script
+    stops c.args.mode (g.F.Files.content c.args.files.now) c.args.name.now c.in_ok-script.script
     (g.F.Files.faults c.args.files.now) (g.F.Files.faults c.read_named.new.files) (g.F.Files.faults c.read_chunk_files.new.files)
     (g.F.Files.bytes_read c.args.files.now) (g.F.Files.bytes_read c.read_named.new.files) (g.F.Files.bytes_read c.read_chunk_files.new.files)
     (g.F.Files.failed_names c.args.files.now) (g.F.Files.failed_names c.read_named.new.files) (g.F.Files.failed_names c.read_chunk_files.new.files)
