@@ -20,8 +20,8 @@
  *   is ordered by a lock, by a thread's start or join, or by a sequentially consistent atomic.
  *   Calls on different decoders may overlap.
  * - A slice is a pointer, not null and aligned, and behind it a count: so many elements can be read
- *   there, or written where it is not const; also where the count is 0. What is read was set
- *   before. What may be written meets nothing else.
+ *   there, or written where it is not const. Also where the count is 0 the pointer is not null.
+ *   What is read was set before. What may be written meets nothing else.
  * - There is stack enough for the call.
  * - malloc, realloc and free are of one allocator whose blocks are aligned as far as 16. No call is
  *   made from a signal handler, nor from the child of a fork in a process with threads.
@@ -69,41 +69,46 @@ enum { ZEMIRAKO_UNCONFIGURED, ZEMIRAKO_CONFIGURED, ZEMIRAKO_CLOSED };
 typedef struct zemirako_audio_decoder zemirako_audio_decoder;
 typedef struct zemirako_decoder_work zemirako_decoder_work;
 
-typedef struct { uint32_t rate, channels, has_description; } zemirako_audio_config;
+typedef struct zemirako_audio_config {
+    uint32_t rate, channels, has_description;
+} zemirako_audio_config;
 
 /* A chunk beside its bytes: a key chunk where `key` is not 0, with a duration where `has_duration`
  * is not 0; times in microseconds. */
-typedef struct {
+typedef struct zemirako_chunk_head {
     uint32_t key, has_duration;
     int64_t timestamp;
     uint64_t duration;
 } zemirako_chunk_head;
 
-typedef struct {
+typedef struct zemirako_reply {
     uint32_t status, error;
     uint64_t place;   /* of the step; of a flush also the name of its promise */
     uint64_t settled; /* so many promises were rejected, numbered from 0 */
 } zemirako_reply;
 
-typedef struct {
+typedef struct zemirako_turn {
     uint32_t status, word, error;
     uint64_t outputs; /* so many outputs are shown, numbered from 0 */
     uint64_t settled; /* so many promises were resolved or rejected, numbered from 0 */
     uint64_t place;
 } zemirako_turn;
 
-typedef struct {
+typedef struct zemirako_output {
     uint32_t status, format, rate, channels, frames;
     int64_t timestamp; /* in microseconds */
     uint64_t size;     /* in bytes, also where they do not fit the room */
 } zemirako_output;
 
-typedef struct {
+typedef struct zemirako_settled {
     uint32_t status, error; /* error 0: the promise was resolved */
     uint64_t promise;
 } zemirako_settled;
 
-typedef struct { uint32_t status, phase; uint64_t queue_size, entries; } zemirako_look;
+typedef struct zemirako_look {
+    uint32_t status, phase;
+    uint64_t queue_size, entries;
+} zemirako_look;
 
 size_t zemirako_audio_decoder_size(void);
 size_t zemirako_audio_decoder_align(void);
@@ -164,12 +169,27 @@ void zemirako_decoder_work_end(zemirako_decoder_work *at);
 /* ---- What follows is not proved. */
 
 /* `saturation`, 1 to 64: so many coded items may be at work before messages wait. ZEMIRAKO_DONE,
- * ZEMIRAKO_NO_MEMORY, or ZEMIRAKO_INVALID where the saturation is out of its range. It is ended
- * also after another status than ZEMIRAKO_DONE. */
+ * ZEMIRAKO_NO_MEMORY, or ZEMIRAKO_INVALID where the saturation is out of its range. After another
+ * status than ZEMIRAKO_DONE each step and `look` say that status, and the decoder is ended as any
+ * other. */
 static inline uint32_t zemirako_audio_decoder_open(zemirako_audio_decoder *at,
                                                    uint32_t saturation) {
     zemirako_audio_decoder_begin(at, saturation);
     return zemirako_audio_decoder_look(at).status;
+}
+
+/* Configures by a codec string that ends in 0, and by a description that counts where its pointer
+ * is not null. */
+static inline zemirako_reply zemirako_audio_decoder_configure_as(
+    zemirako_audio_decoder *at, const char *codec, uint32_t rate, uint32_t channels,
+    const uint8_t *description, size_t description_count) {
+    zemirako_audio_config config = {rate, channels, description ? 1u : 0u};
+    const uint8_t *text = (const uint8_t *)codec;
+    size_t count = 0;
+    while (codec[count]) count++;
+    return zemirako_audio_decoder_configure(at, &config, text, count,
+                                            description ? description : text,
+                                            description ? description_count : 0);
 }
 
 /* What a status says. */
@@ -184,6 +204,24 @@ static inline const char *zemirako_status_text(uint32_t status) {
     case ZEMIRAKO_NOT_OPEN: return "not open";
     case ZEMIRAKO_USED_UP: return "no step has a number any more";
     default: return "no status";
+    }
+}
+
+/* The name of an exception or of a promise's end; 0 is none. */
+static inline const char *zemirako_error_text(uint32_t error) {
+    switch (error) {
+    case 0: return "no error";
+    case ZEMIRAKO_ABORT: return "AbortError";
+    case ZEMIRAKO_INVALID_STATE: return "InvalidStateError";
+    case ZEMIRAKO_NOT_SUPPORTED: return "NotSupportedError";
+    case ZEMIRAKO_ENCODING: return "EncodingError";
+    case ZEMIRAKO_DATA: return "DataError";
+    case ZEMIRAKO_DATA_CLONE: return "DataCloneError";
+    case ZEMIRAKO_QUOTA_EXCEEDED: return "QuotaExceededError";
+    case ZEMIRAKO_TYPE: return "TypeError";
+    case ZEMIRAKO_RANGE: return "RangeError";
+    case ZEMIRAKO_OUT_OF_MEMORY: return "out of memory";
+    default: return "no name";
     }
 }
 

@@ -1,26 +1,26 @@
 #!/usr/bin/env bash
-# Builds tools/engine-test.c over the engine for C, and runs it: engine-test.sh [FOLDER [COUNT]]
-# FOLDER is where tools/build-engine left the library (if not said, out/zemirako_engine). With few
+# Builds tools/engine-test.c over the engine for C, and runs it: engine-test.sh [PREFIX [COUNT]]
+# PREFIX is where tools/build-engine put the library (if not said, out/zemirako_engine). With few
 # decodes it runs under the sanitizers of the C part, and under valgrind's memcheck and helgrind
 # where valgrind is on the path; with COUNT (1,000,000, if not said) it runs alone. Each run prints
 # the same.
 set -euo pipefail
 
 top=$(cd "$(dirname "$0")/.." && pwd)
-folder=${1:-$top/out/zemirako_engine}
+prefix=${1:-$top/out/zemirako_engine}
 count=${2:-1000000}
 programs=$(mktemp -d)
 trap 'rm -rf "$programs"' EXIT
-flags=(-Wall -Wextra -Werror -I"$folder")
-code=("$top/tools/engine-test.c" -L"$folder" -lzemirako_engine -pthread
+flags=(-Wall -Wextra -Werror -I"$prefix/include")
+code=("$top/tools/engine-test.c" "$prefix/lib/libzemirako_engine.a" -pthread
     -Wl,--wrap=malloc -Wl,--wrap=realloc -Wl,--wrap=free)
 cc -std=c11 "${flags[@]}" -g -O1 -fsanitize=address,undefined -fno-sanitize-recover=all \
     -o "$programs/checked" "${code[@]}"
 cc -std=c11 "${flags[@]}" -g -O2 -o "$programs/plain" "${code[@]}"
 if command -v c++ >/dev/null; then
-    c++ -std=c++17 "${flags[@]}" -fsyntax-only -x c++ "$folder/zemirako_engine.h"
+    c++ -std=c++17 "${flags[@]}" -fsyntax-only -x c++ "$prefix/include/zemirako_engine.h"
 fi
-if others=$(nm -g --defined-only "$folder/libzemirako_engine.a" | grep ' [A-Z] ' \
+if others=$(nm -g --defined-only "$prefix/lib/libzemirako_engine.a" | grep ' [A-Z] ' \
     | grep -v ' zemirako_'); then
     echo "symbols of other names:" >&2
     echo "$others" >&2

@@ -1,9 +1,9 @@
 #!/usr/bin/env python3
 """Turns 100 signals into FLAC and back by examples/wav_flac.c, and compares with the system's `flac`, sample by sample.
 
-    tools/library-signals.py [FOLDER]
+    tools/library-signals.py [PREFIX]
 
-FOLDER is where tools/build-library left the library (if not said, out/zemirako at the top of the repository). The signals
+PREFIX is where tools/build-library put the library (if not said, out/zemirako at the top of the repository). The signals
 have each depth (8, 16, 24 and 32 bits) and each count of channels (1 to 8), several rates and lengths, and are noise, tones,
 silence, a constant, a ramp, or the least and the greatest value in turn. Of each signal:
 
@@ -114,15 +114,15 @@ def faults(program, work, data, depth, channels, rate):
 
 def main():
     parser = argparse.ArgumentParser(description=__doc__.splitlines()[0])
-    parser.add_argument("folder", nargs="?", default=f"{TOP}/out/zemirako")
+    parser.add_argument("prefix", nargs="?", default=f"{TOP}/out/zemirako")
     options = parser.parse_args()
     draw = random.Random(22)
     bad = 0
     with tempfile.TemporaryDirectory() as work:
         program = f"{work}/wav_flac"
         words = ["cc", "-std=c11", "-Wall", "-Wextra", "-Werror", "-g", "-O1", "-fsanitize=address,undefined"]
-        words += ["-fno-sanitize-recover=all", f"-I{options.folder}", "-o", program, f"{TOP}/examples/wav_flac.c"]
-        subprocess.run(words + [f"-L{options.folder}", "-lzemirako"], check=True)
+        words += ["-fno-sanitize-recover=all", f"-I{options.prefix}/include", "-o", program, f"{TOP}/examples/wav_flac.c"]
+        subprocess.run(words + [f"{options.prefix}/lib/libzemirako.a"], check=True)
         for number in range(COUNT):
             depth, channels = DEPTHS[number % 4], number // 4 % 8 + 1
             kind, length, rate = KINDS[number % 7], draw.choice(LENGTHS), RATES[number % 9]

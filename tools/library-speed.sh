@@ -1,19 +1,19 @@
 #!/usr/bin/env bash
 # What the library for C and libFLAC cost on the same blocks and frames, in one run of one C program that links both
 # (tools/speed/library.c): nanoseconds a sample (the least of nine rounds that take turns), and instructions a sample by
-# callgrind (the work's own and what it calls): tools/library-speed.sh [FOLDER [SECONDS]]. FOLDER is where tools/build-library
-# left the library (if not said, out/zemirako). libFLAC codes with the same candidates (fixed predictors, blocks of 4096, the
+# callgrind (the work's own and what it calls): tools/library-speed.sh [PREFIX [SECONDS]]. PREFIX is where tools/build-library
+# put the library (if not said, out/zemirako). libFLAC codes with the same candidates (fixed predictors, blocks of 4096, the
 # level's partition orders and stereo modes) without its MD5 sum, once with its guess of the predictor's order and once with
 # each tried. Wants valgrind, libflac-dev and gcc.
 set -euo pipefail
 
 top=$(cd "$(dirname "$0")/.." && pwd)
-folder=${1:-$top/out/zemirako}
+prefix=${1:-$top/out/zemirako}
 seconds=${2:-20}
 work=$(mktemp -d)
 trap 'rm -rf "$work"' EXIT
-gcc -std=gnu11 -Wall -Wextra -Werror -O2 -g -I"$folder" -o "$work/library" "$top/tools/speed/library.c" \
-  -L"$folder" -lzemirako -lFLAC -lm
+gcc -std=gnu11 -Wall -Wextra -Werror -O2 -g -I"$prefix/include" -o "$work/library" "$top/tools/speed/library.c" \
+  "$prefix/lib/libzemirako.a" -lFLAC -lm
 
 echo "load: $(cut -d ' ' -f 1-3 /proc/loadavg) on $(nproc) processors; libFLAC $(pkg-config --modversion flac)"
 for row in "16 4" "16 6" "24 6"; do
