@@ -99,3 +99,30 @@ finest_cut block order most h = elim (cases_lt most 15) [
 
 pub partition_cut : (block order most : ℕ) (zs : List ℕ) → block ≤ 65535 → best_partition block order (min most 15) zs ≡ best_partition block order most zs
 partition_cut block order most zs h = ap (first_least (plan_bits block order zs)) (finest_cut block order most h)
+
+-- ---- predictors of fewer samples
+
+pub fits_for : (block o order p : ℕ) → fits block o p ≡ true → order < block / 2 ^ p → fits block order p ≡ true
+fits_for block o order p e h = (let parts = both (block % 2 ^ p == 0) (nat_lt o (block / 2 ^ p)) e in rw (parts.0, lt-ltb order (block / 2 ^ p) h) refl)
+
+most_by : (block order p : ℕ) (t : Bool) → finest block order p ≤ p → cond t (suc p) (finest block order p) ≤ suc p
+most_by block order p true h = omega arith
+most_by block order p false h = omega (arith, h)
+
+pub finest_most : (block order most : ℕ) → finest block order most ≤ most
+finest_most block order zero = omega (arith, finest_zero block order)
+finest_most block order (suc p) = subst (λ (k : ℕ). k ≤ suc p) (sym (finest_next block order p)) (most_by block order p (fits block order (suc p)) (finest_most block order p))
+
+fewer_by : (block o order p : ℕ) (t u : Bool) → (t ≡ true → u ≡ true) → finest block order p ≤ finest block o p → cond t (suc p) (finest block order p) ≤ cond u (suc p) (finest block o p)
+fewer_by block o order p true true same h = omega arith
+fewer_by block o order p true false same h = absurd (no (same refl))
+fewer_by block o order p false true same h = omega (arith, finest_most block order p)
+fewer_by block o order p false false same h = h
+
+-- a partition order that fits a predictor of more samples fits one of fewer
+pub finest_fewer : (block o order most : ℕ) → o ≤ order → finest block order most ≤ finest block o most
+finest_fewer block o order zero less = omega (arith, finest_zero block order, finest_zero block o)
+finest_fewer block o order (suc p) less =
+    subst (λ (k : ℕ). k ≤ finest block o (suc p)) (sym (finest_next block order p))
+    (subst (λ (k : ℕ). cond (fits block order (suc p)) (suc p) (finest block order p) ≤ k) (sym (finest_next block o p))
+    (fewer_by block o order p (fits block order (suc p)) (fits block o (suc p)) (λ e. fits_for block order o (suc p) e (omega (arith, less, (fits_whole block order (suc p) e).1))) (finest_fewer block o order p less)))

@@ -1,7 +1,7 @@
 -- What the search for the plan with the fewest bits goes by.
 use Rattle.std.specs.Prelude.{ℕ, ◌≡◌, ◌≤◌, ◌<◌, ◌+◌, ◌-◌, ◌*◌, ◌/◌, ◌^◌, min, true, List, length, map, sum_by}
 use Rattle.std.specs.List.{flat_map, range_with_len}
-use Rattle.flac_definitions.specs.Plans.{first_least, cost, best_parameter, part_of, plan_bits, fits, finest}
+use Rattle.flac_definitions.specs.Plans.{first_least, cost, best_parameter, part_of, plan_bits, fits, finest, best_partition}
 
 -- `best` is the first of `from` to `to` at which `f` is least
 pub record IsFirstLeast (f : ℕ → ℕ) (from to best : ℕ) : Type 0 where
@@ -69,3 +69,10 @@ least zs = cost (best_parameter zs) zs
 
 abbrev pub leasts : ℕ → ℕ → List ℕ → ℕ → ℕ
 leasts size order zs parts = sum_by (λ j. least (part_of size order zs j)) (range_with_len 0 parts)
+
+-- No plan has fewer bits than ten and what the finest parts do not go below; a part has no fewer bits than a number that is below it
+-- with each parameter; and the best partition order is none beyond the finest.
+pub record NoPlanIsBelowLeasts : Type 0 where
+  pub plans : (block order : ℕ) (zs : List ℕ) (finest p b : ℕ) → fits block order finest ≡ true → p ≤ finest → b ≤ leasts (block / 2 ^ finest) order zs (2 ^ finest) → 10 + b ≤ plan_bits block order zs p
+  pub parts : (b : ℕ) (zs : List ℕ) → IsBelow b zs → b ≤ least zs
+  pub partitions : (block order most : ℕ) (zs : List ℕ) → best_partition block order most zs ≤ finest block order most

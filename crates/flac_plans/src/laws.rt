@@ -1,5 +1,5 @@
 // Laws of plans and of residuals.
-ghost use Rattle.flac_plans.specs.Search.{NoPlanIsBelow};
+ghost use Rattle.flac_plans.specs.Search.{NoPlanIsBelow, NoPlanIsBelowLeasts};
 ghost use Rattle.flac_plans.specs.ResidualLaws.{WrittenResidualsAreRead};
 
 use flac_rice::residuals_are_spelled;
@@ -8,6 +8,12 @@ use flac_rice::residuals_are_spelled;
 /// need not be searched.
 pub fn no_plan_is_below()
     ensures { NoPlanIsBelow }
+{}
+
+/// The same, by a number that the bits of the finest parts do not go below, and how such a number is made of each part's
+/// sum.
+pub fn no_plan_is_below_leasts()
+    ensures { NoPlanIsBelowLeasts }
 {}
 
 /// What `write_residual` writes spells the residual, and where it stands, the residual is read (RFC 9639, section

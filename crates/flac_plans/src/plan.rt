@@ -197,8 +197,8 @@ fn fits(block: u32, order: u32, p: u32) -> bool
     block % (1 << p) == 0 && order < block >> p
 }
 
-/// The greatest partition order that fits.
-fn finest(block: u32, order: u32, most: u32) -> u32
+/// The greatest partition order that fits a predictor's order, and is at most `most` (RFC 9639, section 9.2.7.1).
+pub fn finest(block: u32, order: u32, most: u32) -> u32
     requires order { order < block }
     requires most { most ≤ 15 }
     ensures value { result ≡ finest block order most }

@@ -309,8 +309,9 @@ fn sum_at(
     left_sums[c] + right_sums[c]
 }
 
-/// Bits that no parameter goes below, for so many values of which twice their sum without signs is at least this.
-fn bound_of(count: u64, twice: u64) -> u64
+/// Bits that no parameter from 0 to 14 goes below, for so many values of which twice their sum without signs is at
+/// least `twice`, at most 2^48.
+pub fn bound_of(count: u64, twice: u64) -> u64
     requires count { count ≤ 65535 }
     requires twice { twice ≤ 2 ^ 48 }
     ensures value { result ≡ least_value (bound_at count twice) 14 }

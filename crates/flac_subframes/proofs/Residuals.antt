@@ -25,7 +25,7 @@ lin3 : (a b c d e : ℤ) → (a -ℤ (((pos 3 *ℤ b) -ℤ (pos 3 *ℤ c)) +ℤ 
 lin3 a b c d e = omega (arith, ints)
 
 -- with the sample before one written as a place less
-step : (o : ℕ) (xs : List ℤ) (i : ℕ) → o ≤ 3 → residual_at o xs i -ℤ residual_at o xs (i - 1) ≡ residual_at (suc o) xs i
+pub step : (o : ℕ) (xs : List ℤ) (i : ℕ) → o ≤ 3 → residual_at o xs i -ℤ residual_at o xs (i - 1) ≡ residual_at (suc o) xs i
 step zero xs i l = lin0 (at xs i) (at xs (i - 1))
 step (suc zero) xs i l =
     let two : i - 1 - 1 ≡ i - 2 = omega arith in

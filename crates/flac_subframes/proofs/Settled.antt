@@ -1,5 +1,5 @@
 -- Samples that all are one: no candidate of any order is shorter than a constant.
-use Rattle.std.proofs.Common.{ℕ, zero, suc, ℤ, ◌≡◌, ◌<◌, ◌≤◌, ◌+◌, ◌-◌, ◌*◌, ◌/◌, ◌^◌, Bool, true, false, cond, min, List, [], ◌∷◌, ◌++◌, length, length-take, length-drop, take, drop, map, sum_by, refl, ap, sym, ◌∙◌, arith, zero-add}
+use Rattle.std.proofs.Common.{ℕ, zero, suc, ℤ, ◌≡◌, ◌<◌, ◌≤◌, ◌+◌, ◌-◌, ◌*◌, ◌/◌, ◌^◌, Bool, true, false, cond, min, List, [], ◌∷◌, length, length-take, length-drop, drop, map, sum_by, refl, ap, sym, ◌∙◌, arith, zero-add}
 use Rattle.std.specs.List.{flat_map, filter, range_with_len}
 use Rattle.std.proofs.Math.Nat.{mul-le-mul_left, mul-le-mul_right}
 use Rattle.std.proofs.lemmas.List.{length-map}
@@ -11,7 +11,7 @@ use Rattle.flac_definitions.specs.FixedPredictors.{residuals, folded_residual, a
 use Rattle.flac_definitions.specs.Candidates.{fixed_candidates, candidate_bits, first_shortest, best_candidate}
 use Rattle.flac_subframes.specs.Search.{plain_candidate}
 use Rattle.flac_definitions.specs.declared.candidate.Candidate.{Candidate}
-use Rattle.flac_definitions.specs.declared.candidate.Candidate.TheVariants.{Constant, Verbatim, Fixed}
+use Rattle.flac_definitions.specs.declared.candidate.Candidate.TheVariants.{Constant, Fixed}
 use Rattle.flac_subframes.proofs.Ranges.{residual_count}
 use Rattle.flac_subframes.proofs.Shortest.{keeps, shortest_none, shortest_next, next_order, start}
 

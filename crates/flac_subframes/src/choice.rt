@@ -5,9 +5,11 @@ ghost use Rattle.std.specs.List.{flat_map, range_with_len};
 ghost use Rattle.flac_definitions.specs.Plans.{best_partition, IsPlan, IsUsable};
 ghost use Rattle.flac_definitions.specs.FixedPredictors.{at, residuals, folded_residual, are_in_range};
 ghost use Rattle.flac_subframes.specs.Search.{AreWithin, plain_candidate, best_of_order};
+ghost use Rattle.flac_subframes.specs.Leasts.{AreLengths};
 ghost use Rattle.flac_definitions.specs.Candidates.{is_constant, are_all, fixed_candidates, candidates, candidate_bits, shorter, first_shortest, best_candidate, IsChoice};
 ghost use Rattle.flac_definitions.specs.declared.candidate.Candidate.TheVariants.{Constant, Verbatim, Fixed};
 
+use crate::leasts::{least_lengths, least_place};
 use crate::likely::likely_order;
 use crate::orders::{are_within, residual_of, small_residual, to_next_order};
 use flac_definitions::{Candidate, Choice, RicePlan};
@@ -81,8 +83,177 @@ fn with_orders(
     Ok(best)
 }
 
-/// The same for small samples, whose residuals are made one from another, with a likely order first.
+/// The same for small samples, whose residuals are made one from another.
 fn with_small_orders(
+    alloc: Global,
+    samples: &[i32],
+    depth: u32,
+    most: u32,
+    last: u32,
+    first: Choice,
+) -> Result<Choice, NoMemory>
+    requires some { 0 < length samples.now }
+    requires count { length samples.now ≤ 65535 }
+    requires depth { depth ≤ 33 }
+    requires most { most ≤ 6 }
+    requires last { last ≤ 4 }
+    requires first { IsChoice depth samples.now first.candidate first }
+    requires within { AreWithin (2 ^ 25) samples.now }
+    ensures { IfOk result (IsChoice depth samples.now
+        (first_shortest (candidate_bits depth samples.now) first.candidate
+        (flat_map (fixed_candidates most samples.now) (range_with_len 0 (last + 1))))) }
+{
+    match least_lengths(samples, depth, most) {
+        Some(lengths) => with_lengths(alloc, samples, depth, most, last, lengths, first),
+        None => with_likely(alloc, samples, depth, most, last, first),
+    }
+}
+
+/// The same, where lengths are known below which no candidate of an order is. The order of the least of these is searched
+/// first, then those behind it, and then those before it; each only where its length lets it be the choice.
+fn with_lengths(
+    alloc: Global,
+    samples: &[i32],
+    depth: u32,
+    most: u32,
+    last: u32,
+    lengths: [u64; 5],
+    first: Choice,
+) -> Result<Choice, NoMemory>
+    requires long { 4 < length samples.now }
+    requires count { length samples.now ≤ 65535 }
+    requires depth { depth ≤ 33 }
+    requires most { most ≤ 6 }
+    requires last { last ≤ 4 }
+    requires first { IsChoice depth samples.now first.candidate first }
+    requires within { AreWithin (2 ^ 25) samples.now }
+    requires lengths { AreLengths depth most samples.now lengths }
+    ensures { IfOk result (IsChoice depth samples.now
+        (first_shortest (candidate_bits depth samples.now) first.candidate
+        (flat_map (fixed_candidates most samples.now) (range_with_len 0 (last + 1))))) }
+{
+    let begin = least_place(lengths, last);
+    if first.bits <= lengths[begin as usize] {
+        return Ok(first);
+    }
+    let residual = small_residual(alloc, samples, begin)?;
+    let here = fixed_choice(alloc, samples, depth, most, begin, residual.as_slice())?;
+    let behind = with_more(alloc, samples, depth, most, begin, last, lengths, here)?;
+    let best = with_fewer(alloc, samples, depth, most, begin, last, lengths, behind)?;
+    Ok(shorter(first, best))
+}
+
+/// A choice, or the first candidate of least length of the orders behind one up to `last` where it is shorter.
+fn with_more(
+    alloc: Global,
+    samples: &[i32],
+    depth: u32,
+    most: u32,
+    from: u32,
+    last: u32,
+    lengths: [u64; 5],
+    first: Choice,
+) -> Result<Choice, NoMemory>
+    requires long { 4 < length samples.now }
+    requires count { length samples.now ≤ 65535 }
+    requires depth { depth ≤ 33 }
+    requires most { most ≤ 6 }
+    requires from { from ≤ last }
+    requires last { last ≤ 4 }
+    requires within { AreWithin (2 ^ 25) samples.now }
+    requires lengths { AreLengths depth most samples.now lengths }
+    requires first { IsChoice depth samples.now first.candidate first }
+    ensures { IfOk result (IsChoice depth samples.now
+        (first_shortest (candidate_bits depth samples.now) first.candidate
+        (flat_map (fixed_candidates most samples.now)
+        (range_with_len (from + 1) (last - from))))) }
+{
+    let mut best = first;
+    for order in from..last {
+        let least = lengths[order as usize + 1];
+        best = with_next(alloc, samples, depth, most, order + 1, least, best)?;
+    }
+    Ok(best)
+}
+
+/// A choice, or that of one more order where it is shorter. The order is not searched where its least length shows that
+/// it is not.
+fn with_next(
+    alloc: Global,
+    samples: &[i32],
+    depth: u32,
+    most: u32,
+    order: u32,
+    least: u64,
+    best: Choice,
+) -> Result<Choice, NoMemory>
+    requires long { 4 < length samples.now }
+    requires count { length samples.now ≤ 65535 }
+    requires depth { depth ≤ 33 }
+    requires most { most ≤ 6 }
+    requires order { order ≤ 4 }
+    requires within { AreWithin (2 ^ 25) samples.now }
+    requires least { least
+        ≤ candidate_bits depth samples.now (best_of_order most samples.now order) }
+    requires best { IsChoice depth samples.now best.candidate best }
+    ensures { IfOk result (IsChoice depth samples.now
+        (first_shortest (candidate_bits depth samples.now) best.candidate
+        (fixed_candidates most samples.now order))) }
+{
+    if best.bits <= least {
+        return Ok(best);
+    }
+    let residual = small_residual(alloc, samples, order)?;
+    with_kept(
+        alloc,
+        samples,
+        depth,
+        most,
+        order,
+        residual.as_slice(),
+        best,
+    )
+}
+
+/// The choice of the first order and of those behind it, from that of an order and of those behind it.
+fn with_fewer(
+    alloc: Global,
+    samples: &[i32],
+    depth: u32,
+    most: u32,
+    from: u32,
+    last: u32,
+    lengths: [u64; 5],
+    behind: Choice,
+) -> Result<Choice, NoMemory>
+    requires long { 4 < length samples.now }
+    requires count { length samples.now ≤ 65535 }
+    requires depth { depth ≤ 33 }
+    requires most { most ≤ 6 }
+    requires from { from ≤ last }
+    requires last { last ≤ 4 }
+    requires within { AreWithin (2 ^ 25) samples.now }
+    requires lengths { AreLengths depth most samples.now lengths }
+    requires behind { IsChoice depth samples.now
+        (first_shortest (candidate_bits depth samples.now) (best_of_order most samples.now from)
+        (flat_map (fixed_candidates most samples.now)
+        (range_with_len (from + 1) (last - from)))) behind }
+    ensures { IfOk result (IsChoice depth samples.now
+        (first_shortest (candidate_bits depth samples.now) (best_of_order most samples.now 0)
+        (flat_map (fixed_candidates most samples.now) (range_with_len 1 last)))) }
+{
+    let _last = last;
+    let mut best = behind;
+    for j in 0..from {
+        let order = from - 1 - j;
+        let least = lengths[order as usize];
+        best = with_earlier(alloc, samples, depth, most, order, least, best)?;
+    }
+    Ok(best)
+}
+
+/// The same, with a likely order first.
+fn with_likely(
     alloc: Global,
     samples: &[i32],
     depth: u32,

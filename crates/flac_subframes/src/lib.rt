@@ -2,6 +2,7 @@
 #![tactic(auto)]
 
 mod choice;
+mod leasts;
 mod likely;
 mod orders;
 mod subframe;

@@ -306,8 +306,9 @@ fn fill_differences(values: &mut [i32], most: u32)
     }
 }
 
+/// The difference of neighbours.
 #[inline]
-fn difference(before: i32, here: i32, most: u32) -> i32
+pub fn difference(before: i32, here: i32, most: u32) -> i32
     requires most { most ≤ 2 ^ 29 }
     requires before { IsWithin most before }
     requires here { IsWithin most here }

@@ -1,4 +1,4 @@
-use Rattle.std.proofs.Common.{ℕ, ◌≡◌, ◌<◌, ◌+◌, ◌*◌, ◌^◌, subst, sym}
+use Rattle.std.proofs.Common.{ℕ, ◌<◌, ◌+◌, ◌^◌, subst, sym}
 use Rattle.flac_subframes.proofs.Numbers.{joined_value, joined_bound}
 use Rattle.flac_subframes.proofs.subframe.joined.Goals as goal
 

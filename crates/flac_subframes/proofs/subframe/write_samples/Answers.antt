@@ -1,7 +1,5 @@
-use Rattle.std.proofs.Common.{List, Bool, ◌++◌, ◌≡◌, ap, sym, subst, ◌∙◌, take, arith}
-use Rattle.std.specs.List.{flat_map}
+use Rattle.std.proofs.Common.{List, Bool, ◌++◌, ◌≡◌, ap, subst, arith}
 use Rattle.std.specs.Result.{OnOk}
-use Rattle.flac_definitions.specs.SubframeWriting.{sample_bits}
 use Rattle.flac_definitions.specs.Bits.{bits_of}
 use Rattle.flac_write.specs.WriterLaws.{bits_none}
 use Rattle.flac_subframes.proofs.Numbers.{sample_more, samples_end}
