@@ -1,5 +1,5 @@
 -- One deed after another.
-use Rattle.std.proofs.Common.{ℕ, ◌≡◌, inl, inr, List, [], ◌∷◌, ◌++◌, map, length, take, Option, Some, refl, ap, sym, subst, ◌∙◌, arith, append-nil, append_assoc}
+use Rattle.std.proofs.Common.{ℕ, ◌≡◌, ◌≤◌, inl, inr, List, [], ◌∷◌, ◌++◌, map, length, take, Option, Some, refl, ap, sym, subst, ◌∙◌, arith, append-nil, append_assoc}
 use Rattle.std.specs.List.{filter, sum_by}
 use Rattle.std.proofs.Math.Seq.{take-length}
 use Rattle.std.proofs.lemmas.List.{take-append-le}
@@ -7,6 +7,7 @@ use Rattle.std.proofs.lemmas.List.Concat.{flat_map-append}
 use Rattle.std.proofs.lemmas.List.Elements.{filter-append}
 use Rattle.std.proofs.lemmas.Option.{slice_get_within}
 use Rattle.atomic_table.specs.declared.shared.Seat.{Seat}
+use Rattle.wc_base.specs.Options.{some_same}
 use Rattle.wc_base.specs.declared.seat.View.{View}
 use Rattle.wc_chunk.specs.declared.chunk.Chunk.{Chunk}
 use Rattle.wc_pool.specs.declared.entry.PoolEntry.{PoolEntry}
@@ -15,6 +16,7 @@ use Rattle.codec_model.specs.declared.entry.Entry.{Entry}
 use Rattle.codec_accounts.specs.Bags.{SameBag}
 use Rattle.codec_accounts.specs.BagsLaws.{weigh_append}
 use Rattle.codec_accounts.specs.Calls.{Mark, Climbs, reach}
+use Rattle.codec_accounts.specs.Calls as mark
 use Rattle.codec_accounts.specs.CallsLaws.{MayClimb, climbs_add}
 use Rattle.codec_accounts.specs.ListLaws.{get_more}
 use Rattle.codec_accounts.specs.Owed.{state_on, at}
@@ -33,10 +35,13 @@ use Rattle.codec_desk.specs.DeskLaws.{map_both, sees_then}
 use Rattle.codec_desk.specs.EachLaws.{each_then}
 use Rattle.desk_threads.specs.Accounts.{is_by_codec, for_codecs}
 use Rattle.media_accounts.specs.Accounts.{StepOp, step_by, own_by, own_in}
+use Rattle.report_text.specs.declared.result.StepResult.{StepResult}
+use Rattle.report_text.specs.declared.result.StepResult.TheVariants as result
 use Rattle.run_model.specs.Fits.{step_in, mark_of}
+use Rattle.run_model.specs.FitsLaws.{look_of}
 use Rattle.desk_callers.specs.Deeds.{Deed, GoOn, IsDeed, IsDeedAfter, AreDeeds, after_deed, calls_by, calls_of, results_of, variables_after}
 use Rattle.desk_callers.specs.Acts.{StaySeats, SettledBy}
-use Rattle.desk_callers.proofs.Histories.{go_same, go_then}
+use Rattle.desk_callers.proofs.Histories.{go_same, go_then, look_reaches}
 
 -- ---- deeds, and one more
 
@@ -55,7 +60,20 @@ calls_more [] d = append-nil (calls_by d)
 calls_more (x ∷ xs) d = ap (λ (l : List Called). calls_by x ++ l) (calls_more xs d) ∙ sym (append_assoc (calls_by x) (calls_of xs) (calls_by d))
 
 deed_after : (s : ScriptData) (media : List (List Chunk)) (c : ℕ) (hs later : List (List Entry)) (before : List Deed) (d : Deed) → GoOn hs later → IsDeedAfter s media c hs before d → IsDeedAfter s media c later before d
-deed_after s media c hs later before d goes x = record { who = x.who; step = x.step; known = x.known; goes_on = go_then x.known hs later x.goes_on goes; is = x.is }
+deed_after s media c hs later before d goes x = record { who = x.who; step = x.step; known = x.known; goes_on = go_then x.known hs later x.goes_on goes; sees = x.sees; is = x.is }
+
+look_seen : (m q k n low high : ℕ) → ◌≡◌ {A = Option (ℕ × ℕ)} (Some (m, q)) (Some (k, n)) → MayClimb (reach k (mark.Look m q)) low high → n ≤ high
+look_seen m q k n low high is may =
+    let same : ◌≡◌ {A = ℕ × ℕ} (m, q) (k, n) = some_same (m, q) (k, n) is in
+    let there : MayClimb (reach k (mark.Look k n)) low high = subst (λ (p : ℕ × ℕ). MayClimb (reach k (mark.Look p.0 p.1)) low high) same may in
+    (subst (λ (o : Option (ℕ × ℕ)). MayClimb o low high) (look_reaches k n).0 there).1
+
+-- a look that is between two ends saw no more than the later
+look_within : (r : StepResult) (k n low high : ℕ) → look_of r ≡ Some (k, n) → MayClimb (reach k (mark_of r)) low high → n ≤ high
+look_within (result.Look m q end) k n low high is may = look_seen m q k n low high is may
+look_within (result.State m q state size) k n low high is may = look_seen m q k n low high is may
+look_within (result.NoUnit m q) k n low high is may = look_seen m q k n low high is may
+look_within r k n low high is may = absurd cc
 
 -- the next step of a caller
 pub deeds_more : (s : ScriptData) (media : List (List Chunk)) (c : ℕ) (hs later : List (List Entry)) (ds : List Deed) (d : Deed) → AreDeeds s media c hs ds → GoOn hs later → d.who ≡ step_by c (length ds) → step_in s c (length ds) ≡ Some d.step
@@ -66,7 +84,7 @@ deeds_more s media c hs later ds d are goes who step is may = record {
         subst (λ (l : List Deed). IsDeedAfter s media c later l e) (sym (take-append-le j ds (d ∷ []) (omega (arith, lt)))) (deed_after s media c hs later (take j ds) e goes (are.each j e old)))
     | inr new ↦ (
         let front : take j (ds ++ d ∷ []) ≡ ds = (λ i. take (new.0 i) (ds ++ d ∷ [])) ∙ (take-append-le (length ds) ds (d ∷ []) (omega arith) ∙ take-length ds) in
-        let here : IsDeedAfter s media c later ds d = record { who = who; step = step; known = later; goes_on = go_same later; is = is } in
+        let here : IsDeedAfter s media c later ds d = record { who = who; step = step; known = later; goes_on = go_same later; sees = λ k n looks. look_within d.result k n (length (at k hs)) (length (at k later)) looks (may k); is = is } in
         subst (λ (l : List Deed). IsDeedAfter s media c later l e) (sym front) (subst (IsDeedAfter s media c later ds) (sym new.1) here)
         )
   ]);

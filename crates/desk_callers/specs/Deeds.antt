@@ -1,6 +1,6 @@
 -- What callers did: each step that was made, as a deed. A caller is as a codec: its deeds are its history, its variables of media the
 -- state, and what it did to the pool and which calls it made are what its deeds call for.
-use Rattle.std.specs.Prelude.{ℕ, zero, suc, ◌≡◌, List, [], ◌∷◌, ◌++◌, map, take, length, slice_get, Option, Some, None, IfSome, option_map, option_and_then}
+use Rattle.std.specs.Prelude.{ℕ, zero, suc, ◌≡◌, ◌≤◌, List, [], ◌∷◌, ◌++◌, map, take, length, slice_get, Option, Some, None, IfSome, option_map, option_and_then}
 use Rattle.wc_base.specs.declared.who.Who.{Who}
 use Rattle.wc_chunk.specs.declared.chunk.Chunk.{Chunk}
 use Rattle.codec_definitions.specs.declared.unit.Unit as output
@@ -21,7 +21,7 @@ use Rattle.media_variables.specs.Variables.{Medium, Numbers, Came, Taken, Brough
 use Rattle.media_accounts.specs.Accounts.{StepOp, step_by, step_op, done_by, media_of, variables_by}
 use Rattle.run_model.specs.Recorded.{Recorded, copied_chunk, steps_of}
 use Rattle.run_model.specs.Fits.{step_in, mark_of, taken_by, IsResultOf, LookShows, HasArguments, IsLocalAnswer}
-use Rattle.run_model.specs.FitsLaws.{made_at}
+use Rattle.run_model.specs.FitsLaws.{made_at, look_of}
 
 -- A step that a caller made, and its result. With it the call that it made of a codec, if it made one; the numbers in its own entry
 -- of the pool, which are of no account where it has none; and the output that it took, if it took one.
@@ -122,12 +122,14 @@ pub record IsDeed (s : ScriptData) (media : List (List Chunk)) (hs : List (List 
   pub arguments : IfSome d.call (λ x. HasArguments s media vs d.who.caller x d.step)
   pub taken : option_map (taken_as d.result) d.taken ≡ taken_by s (known_by d.who.caller rs hs) (Some d.result)
 
--- A deed of a caller with some deeds before it: the script's next step, and as histories were that have gone on since.
+-- A deed of a caller with some deeds before it: the script's next step, and as histories were that have gone on since. A look saw no
+-- more than these.
 pub record IsDeedAfter (s : ScriptData) (media : List (List Chunk)) (c : ℕ) (hs : List (List Entry)) (before : List Deed) (d : Deed) : Type 0 where
   pub who : d.who ≡ step_by c (length before)
   pub step : step_in s c (length before) ≡ Some d.step
   pub known : List (List Entry)
   pub goes_on : GoOn known hs
+  pub sees : (k n : ℕ) → look_of d.result ≡ Some (k, n) → n ≤ length (at k known)
   pub is : IsDeed s media known (results_of before) (variables_after s media before) d
 
 -- These are the deeds of the first steps of a caller, by the codecs' histories so far; the places of its calls rise, and each look

@@ -16,7 +16,7 @@ use Rattle.wc_run.proofs.Lists.{get_there}
 
 module _ {C : Type 0} (desk : Desk C) where
   pub stays_none : (a : Seats C) → SitAt desk a → Stays desk a a
-  stays_none a at = record { sits = at; runs = λ x. x; paid = λ x. x; calls = λ calls x. x }
+  stays_none a at = record { sits = at; runs = λ x. x; paid = λ x. x; calls = λ calls x. x; owned = λ mine x. x }
 
   pub stays_then : (a b c : Seats C) → Stays desk a b → Stays desk b c → Stays desk a c
   stays_then a b c x y = record {
@@ -24,6 +24,7 @@ module _ {C : Type 0} (desk : Desk C) where
     runs = λ h. y.runs (x.runs h);
     paid = λ h. y.paid (x.paid h);
     calls = λ calls h. y.calls calls (x.calls calls h);
+    owned = λ mine h. y.owned mine (x.owned mine h);
   }
 
 -- ---- jobs that were done

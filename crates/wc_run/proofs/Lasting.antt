@@ -78,7 +78,7 @@ module _ {S : Type 0} where
 
 module _ (s : ScriptData) (media : List (List Chunk)) where
   deed_later : (c : ℕ) (hs later : List (List Entry)) (before : List Deed) (d : Deed) → GoOn hs later → IsDeedAfter s media c hs before d → IsDeedAfter s media c later before d
-  deed_later c hs later before d goes x = record { who = x.who; step = x.step; known = x.known; goes_on = go_then x.known hs later x.goes_on goes; is = x.is }
+  deed_later c hs later before d goes x = record { who = x.who; step = x.step; known = x.known; goes_on = go_then x.known hs later x.goes_on goes; sees = x.sees; is = x.is }
 
   deeds_later : (c : ℕ) (hs later : List (List Entry)) (ds : List Deed) → GoOn hs later → AreDeeds s media c hs ds → AreDeeds s media c later ds
   deeds_later c hs later ds goes x = record {

@@ -1,4 +1,5 @@
 mod Lasting
+mod Owning
 mod Paying
 mod Together
 mod JobLists
@@ -6,3 +7,11 @@ mod Lists
 mod Finishing
 mod Scripts
 mod Whole
+mod Acts
+mod CallsTold
+mod Fitting
+mod Going
+mod Known
+mod Media
+mod Numbers
+mod PoolEntries

@@ -1,5 +1,5 @@
 -- What threads did together, as their seats are joined.
-use Rattle.std.proofs.Common.{ℕ, ◌≡◌, ◌+◌, ◌-◌, List, [], ◌∷◌, ◌++◌, Option, length, refl, ap, sym, subst, ◌∙◌, append-nil, append_assoc, arith}
+use Rattle.std.proofs.Common.{ℕ, suc, ◌≡◌, ◌+◌, ◌-◌, List, [], ◌∷◌, ◌++◌, Option, length, refl, ap, sym, subst, ◌∙◌, append-nil, append_assoc, arith}
 use Rattle.wc_chunk.specs.declared.chunk.Chunk.{Chunk}
 use Rattle.shared_codec.specs.Dues.{Called}
 use Rattle.codec_desk.specs.declared.desk.Desk.{Desk}
@@ -24,15 +24,24 @@ use Rattle.wc_run.specs.declared.jobs.Role.{Role}
 use Rattle.wc_run.specs.declared.jobs.Role.TheVariants as role
 use Rattle.wc_run.specs.Acted.{HasActed, HaveActed, calls_of_all}
 use Rattle.wc_run.specs.Jobs.{RoleDid}
+use Rattle.wc_run.specs.Owned.{Owned, none_owned, owns_at}
 use Rattle.wc_run.specs.Paid.{IsPaid}
 use Rattle.wc_run.specs.Roles.{role_at, noted}
 use Rattle.wc_run.specs.Threads.{HaveRun}
 use Rattle.wc_run.proofs.Lasting.{go_seen, go_taken, go_other, acted_later, all_later, acted_add}
 use Rattle.wc_run.proofs.Lists.{caller_number}
+use Rattle.wc_run.proofs.Owning.{owned_same, owned_joined, owned_settled}
 
 calls_add : (all : List (List Deed)) (ds : List Deed) → calls_of_all (all ++ ds ∷ []) ≡ calls_of_all all ++ calls_of ds
 calls_add [] ds = append-nil (calls_of ds)
 calls_add (es ∷ all) ds = ap (λ (l : List Called). calls_of es ++ l) (calls_add all ds) ∙ sym (append_assoc (calls_of es) (calls_of_all all) (calls_of ds))
+
+-- there are as many lists of deeds as callers
+acted_many : (s : ScriptData) (media : List (List Chunk)) (c : ℕ) (hs : List (List Entry)) (ts : List CallerTrace) (all : List (List Deed)) → HaveActed s media hs c ts all → length ts ≡ length all
+acted_many s media c hs [] [] h = refl
+acted_many s media c hs [] (ds ∷ all) h = absurd h
+acted_many s media c hs (t ∷ ts) [] h = absurd h
+acted_many s media c hs (t ∷ ts) (ds ∷ all) h = ap suc (acted_many s media (suc c) hs ts all h.1)
 
 module _ {S : Type 0} where
   parts_kept : (n : ℕ) (xs : List Shared) (us vs : List (Seat (Option S) (View Event))) → EachHas n us → Each SeesMore xs us vs → EachHas n vs
@@ -55,19 +64,20 @@ module _ {C : Type 0} where
   pub no_more : (desk : Desk C) (a b : Seats C) (calls : List Called) → Calls desk [] a b → Named desk calls a → Named desk calls b
   no_more desk a b calls since was = subst (λ (l : List Called). Named desk l b) (append-nil calls) (named_after desk a b calls [] since was)
 
-  same_more : (s : ScriptData) (media : List (List Chunk)) (desk : Desk C) (ts : List CallerTrace) (a o b : Seats C) → AreTakenIn desk a o b → IsPaid desk b → Named desk [] o → HaveRun s media desk ts a → HaveRun s media desk ts b
-  same_more s media desk ts a o b join paid none x = record {
+  same_more : (s : ScriptData) (media : List (List Chunk)) (desk : Desk C) (ts : List CallerTrace) (a o b : Seats C) → AreTakenIn desk a o b → IsPaid desk b → Named desk [] o → Owned none_owned o → HaveRun s media desk ts a → HaveRun s media desk ts b
+  same_more s media desk ts a o b join paid none own x = record {
     paid = paid;
     deeds = x.deeds;
     acted = all_later s media 0 (histories_in a.codecs.items) (histories_in b.codecs.items) ts x.deeds (go_taken desk.codecs.items a.codecs.items o.codecs.items b.codecs.items join.codecs) x.acted;
     calls = named_same desk a o b (calls_of_all x.deeds) join x.calls none;
+    own = owned_same desk (owns_at s media x.deeds) a o b join x.own own;
   }
 
   module _ {K : Type 0} (s : ScriptData) (media : List (List Chunk)) (desk : Desk C) where
     -- one job more
     by_role : (r : Role) (n w : ℕ) (ts : List CallerTrace) (job : Job C K) (a b : Seats C) → role_at w n ≡ r → length ts ≡ n - (w + 1) → AreTakenIn desk a job.seats b → IsPaid desk b → RoleDid s media desk r job → HaveRun s media desk ts a → HaveRun s media desk (noted r job.results.items ts) b
-    by_role role.Turner n w ts job a b is many join paid did x = same_more s media desk ts a job.seats b join paid did x
-    by_role role.Worker n w ts job a b is many join paid did x = same_more s media desk ts a job.seats b join paid did x
+    by_role role.Turner n w ts job a b is many join paid did x = same_more s media desk ts a job.seats b join paid did.calls did.owned x
+    by_role role.Worker n w ts job a b is many join paid did x = same_more s media desk ts a job.seats b join paid did.calls did.owned x
     by_role (role.Caller c) n w ts job a b is many join paid did x =
         let now : List (List Entry) = histories_in b.codecs.items in
         let number = caller_number w n c is in
@@ -78,14 +88,15 @@ module _ {C : Type 0} where
           deeds = x.deeds ++ did.deeds ∷ [];
           acted = acted_add s media 0 c now ts x.deeds (record { results = job.results.items }) did.deeds before (omega (arith, number, many)) new;
           calls = subst (λ (l : List Called). Named desk l b) (sym (calls_add x.deeds did.deeds)) (named_joined desk a job.seats b (calls_of_all x.deeds) (calls_of did.deeds) join x.calls did.calls);
+          own = owned_joined s media desk x.deeds did.deeds c a job.seats b (number ∙ (sym many ∙ acted_many s media 0 (histories_in a.codecs.items) ts x.deeds x.acted)) join x.own did.own did.others;
         }
 
     pub join_more : (n w : ℕ) (ts : List CallerTrace) (job : Job C K) (a b : Seats C) → length ts ≡ n - (w + 1) → AreTakenIn desk a job.seats b → IsPaid desk b → RoleDid s media desk (role_at w n) job → HaveRun s media desk ts a → HaveRun s media desk (noted (role_at w n) job.results.items ts) b
     join_more n w ts job a b many join paid did x = by_role (role_at w n) n w ts job a b refl many join paid did x
 
   -- with no job joined
-  pub run_none : (s : ScriptData) (media : List (List Chunk)) (desk : Desk C) (a : Seats C) → IsPaid desk a → Named desk [] a → HaveRun s media desk [] a
-  run_none s media desk a paid none = record { paid = paid; deeds = []; acted = tt; calls = none }
+  pub run_none : (s : ScriptData) (media : List (List Chunk)) (desk : Desk C) (a : Seats C) → IsPaid desk a → Named desk [] a → Owned none_owned a → HaveRun s media desk [] a
+  run_none s media desk a paid none own = record { paid = paid; deeds = []; acted = tt; calls = none; own = own }
 
   -- what is settled behind
   pub run_settled : (s : ScriptData) (media : List (List Chunk)) (desk : Desk C) (ts : List CallerTrace) (a b : Seats C) → Settled desk a b → Calls desk [] a b → IsPaid desk b → HaveRun s media desk ts a → HaveRun s media desk ts b
@@ -94,4 +105,5 @@ module _ {C : Type 0} where
     deeds = x.deeds;
     acted = all_later s media 0 (histories_in a.codecs.items) (histories_in b.codecs.items) ts x.deeds (go_seen desk.codecs.items a.codecs.items b.codecs.items settled.seats) x.acted;
     calls = no_more desk a b (calls_of_all x.deeds) none x.calls;
+    own = owned_settled desk (owns_at s media x.deeds) a b settled x.own;
   }

@@ -1,7 +1,8 @@
 -- A whole run.
-use Rattle.std.proofs.Common.{ℕ, ◌≡◌, ◌+◌, ◌<◌, true, List, map, Some, length, ap, sym, subst, ◌∙◌, arith}
+use Rattle.std.proofs.Common.{ℕ, ◌≡◌, ◌+◌, ◌<◌, true, inl, inr, List, [], map, Some, length, ap, sym, subst, ◌∙◌, arith}
 use Rattle.std.specs.Prelude.{slice_get}
 use Rattle.std.specs.List.{flat_map, sum_by}
+use Rattle.std.proofs.lemmas.Bool.{cases_lt}
 use Rattle.wc_base.specs.Views.{Log}
 use Rattle.wc_config.specs.declared.codec.CoderId.{CoderId}
 use Rattle.wc_chunk.specs.declared.chunk.Chunk.{Chunk}
@@ -11,7 +12,7 @@ use Rattle.codec_model.specs.declared.entry.Entry.{Entry}
 use Rattle.codec_accounts.specs.Bags.{SameBag}
 use Rattle.codec_accounts.specs.Codec.{state_after}
 use Rattle.codec_accounts.specs.Owed.{at}
-use Rattle.seat_lock.specs.Logs.{entries_of}
+use Rattle.seat_lock.specs.Logs.{AllBy, entries_of}
 use Rattle.codec_logs.specs.declared.event.Event.{Event}
 use Rattle.codec_logs.specs.Logs.{IsLog}
 use Rattle.shared_codec.specs.Order.{done_at, slot_at}
@@ -30,20 +31,32 @@ use Rattle.run_model.specs.declared.run.CallerTrace.{CallerTrace}
 use Rattle.run_model.specs.declared.run.CodecTrace.{CodecTrace}
 use Rattle.run_model.specs.Fits.{AreLegalTraces, IsLegalRun, recorded_of}
 use Rattle.run_model.specs.Recorded.{Recorded, opening_at}
+use Rattle.media_accounts.specs.Accounts.{own_in}
 use Rattle.run_laws.specs.Fits.{AreAtRest}
 use Rattle.run_laws.specs.Paid.{histories_of}
 use Rattle.run_laws.specs.Quiet.{IsAtRest}
 use Rattle.wc_run.specs.Acted.{HaveActed, calls_of_all}
+use Rattle.wc_run.specs.Fits.{CallersFit, FitsByThreads}
 use Rattle.wc_run.specs.Made.{IsMade}
+use Rattle.wc_run.specs.Owned.{owns_at}
 use Rattle.wc_run.specs.Runnable.{IsDeskOf}
 use Rattle.wc_run.specs.Threads.{HaveRun}
 use Rattle.wc_run.specs.Traces.{IsLeftBy}
-use Rattle.wc_run.proofs.Finishing.{Opens, opens_many, opening_there, logs_in, histories_are, legal_traces, entries_are, all_well, logs_legal, logs_rest, slots_in_order, media_in_order, slots_same, calls_same}
+use Rattle.wc_run.proofs.PoolEntries.{media_past, none_beyond}
+use Rattle.wc_run.proofs.Finishing.{Opens, opens_many, opening_there, logs_in, logs_many, histories_are, legal_traces, entries_are, all_well, logs_legal, logs_rest, slots_in_order, media_in_order, slots_same, calls_same}
+use Rattle.wc_run.proofs.Owning.{owned_all}
 
 -- a law of run_laws
 abbrev pub CodecsRest : Type 0
 CodecsRest = (script : ScriptData) (logs : List (Log Event)) (run : Recorded) → run.codecs ≡ histories_of logs → ((k : ℕ) → k < length logs → IsLog k (opening_at script k) (at k logs)) → AreAtRest script logs
     → (k : ℕ) → k < length run.codecs → IsAtRest (state_after (opening_at script k) (at k run.codecs)).control
+
+-- another, of this crate
+abbrev pub CallersFitThem : Type 0
+CallersFitThem = (script : ScriptData) (media : List (List Chunk)) (made : List CoderId) (run : Run) → IsMade script media made run → CallersFit script media (recorded_of run)
+
+pub fits_by_threads : CallersFitThem → (s : ScriptData) (media : List (List Chunk)) (made : List CoderId) (run : Run) → IsMade s media made run → FitsByThreads s media made run
+fits_by_threads law s media made run x = record { is_made = x; fits = law s media made run x }
 
 module _ {C : Type 0} where
   pub desk_of : (s : ScriptData) (desk : Desk C) → Opens s.codecs desk.codecs.items → IsDeskOf s desk
@@ -58,8 +71,8 @@ module _ {C : Type 0} where
 
   pub is_made : CodecsRest → (s : ScriptData) (media : List (List Chunk)) (made : List CoderId) (desk : Desk C) (b : Seats C) (f : Finished C) (ts : List CallerTrace) (run : Run)
       → Opens s.codecs desk.codecs.items → SitAt desk b → desk.slots.made ≡ made → IsFinished desk b f → AllBalanced desk b → WholeInOrder desk b → EachIsQuiet desk.codecs.items b.codecs.items
-      → (x : HaveRun s media desk ts b) → SameBag (all_calls desk.codecs.items b.codecs.items) (calls_of_all x.deeds) → IsLeftBy ts f run → IsMade s media made run
-  is_made rest s media made desk b f ts run o sits made_is finished balanced whole quiet x calls left =
+      → (x : HaveRun s media desk ts b) → SameBag (all_calls desk.codecs.items b.codecs.items) (calls_of_all x.deeds) → AllBy b.pool.me.0.numbers b.pool.me.0.log → IsLeftBy ts f run → IsMade s media made run
+  is_made rest s media made desk b f ts run o sits made_is finished balanced whole quiet x calls all left =
       let xs = desk.codecs.items in
       let us = b.codecs.items in
       let sl = b.slots.me.0.log in
@@ -84,8 +97,16 @@ module _ {C : Type 0} where
         pool_is_legal = ap is_legal_pool left.pool ∙ left.pool_is_legal;
         slots_called = λ t. sym (ap (sum_by t) (slots_same (opening_at s) 0 desk.pool desk.slots.id xs us sits.codecs openings)) ∙ (balanced.slots t ∙ sym (ap (sum_by t) slots));
         slot_causes = λ k place lt. slots_in_order desk.pool desk.slots.id sl pl s.codecs xs us o well k place lt ∙ sym (ap (flat_map (slot_at k place)) slots);
-        media_causes = λ k place lt. media_in_order desk.pool desk.slots.id sl pl s.codecs xs us o well k place lt ∙ sym (ap (flat_map (done_at k place)) pool);
+        media_causes = λ k place. (elim (cases_lt k (length logs)) [
+          | inl lt ↦ (media_in_order desk.pool desk.slots.id sl pl s.codecs xs us o well k place lt ∙ sym (ap (flat_map (done_at k place)) pool))
+          | inr past ↦ (
+              let long : length logs ≡ length us = logs_many us in
+              let none : flat_map (done_at k place) (entries_of pl) ≡ [] = none_beyond k place desk.pool desk.slots.id xs us (entries_of pl) sits.codecs (omega (arith, past, long)) balanced.pool in
+              media_past (opening_at s) k place logs past ∙ sym (ap (flat_map (done_at k place)) pool ∙ none)
+              )
+        ]);
         deeds = x.deeds;
         acted = subst (λ (z : List (List Entry) × List CallerTrace). HaveActed s media z.0 0 z.1 x.deeds) (λ i. (acted_as i, callers_as i)) x.acted;
         calls = λ t. sym (ap (sum_by t) (calls_same (opening_at s) 0 desk.pool desk.slots.id xs us sits.codecs openings)) ∙ calls t;
+        own = λ c. ap (own_in c) pool ∙ owned_all (owns_at s media x.deeds) b all x.own c;
       }

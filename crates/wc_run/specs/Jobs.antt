@@ -1,18 +1,21 @@
 -- What the job of a thread of a run is before it is done, and what was done.
-use Rattle.std.specs.Prelude.{ℕ, ◌≡◌, false, List, [], Some, slice_get}
+use Rattle.std.specs.Prelude.{ℕ, ◌≡◌, ◌≢◌, false, List, [], Some, slice_get}
 use Rattle.wc_chunk.specs.declared.chunk.Chunk.{Chunk}
+use Rattle.shared_codec.specs.Order.{made_by}
 use Rattle.codec_desk.specs.declared.desk.Desk.{Desk}
 use Rattle.codec_desk.specs.Desks.{SitAt}
 use Rattle.codec_desk.specs.Runs.{EachRunsNone}
 use Rattle.desk_threads.specs.Accounts.{Named}
 use Rattle.desk_threads.specs.Parts.{HaveParts}
+use Rattle.media_accounts.specs.Accounts.{own_in}
 use Rattle.desk_callers.specs.Acts.{histories_in}
-use Rattle.desk_callers.specs.Deeds.{Deed, calls_of}
+use Rattle.desk_callers.specs.Deeds.{Deed, calls_of, owns_of}
 use Rattle.script_types.specs.declared.script.ScriptData.{ScriptData}
 use Rattle.wc_run.specs.declared.jobs.Job.{Job}
 use Rattle.wc_run.specs.declared.jobs.Role.{Role}
 use Rattle.wc_run.specs.declared.jobs.Role.TheVariants as role
 use Rattle.wc_run.specs.Acted.{HasActed}
+use Rattle.wc_run.specs.Owned.{Owned, none_owned}
 use Rattle.wc_run.specs.Paid.{IsPaid}
 use Rattle.wc_run.specs.Roles.{role_at}
 
@@ -28,6 +31,7 @@ module _ {C K : Type 0} (desk : Desk C) where
     pub ready : IsReady job
     pub paid : IsPaid desk job.seats
     pub called : Named desk [] job.seats
+    pub owned : Owned none_owned job.seats
     pub first : (job.results.items ≡ []) × (job.variables ≡ [])
 
   abbrev pub AreReady : List (Job C K) → Type 0
@@ -38,16 +42,24 @@ module _ {C K : Type 0} (desk : Desk C) where
 
 -- `media` has the chunks of each of the script's chunk files
 module _ {C K : Type 0} (s : ScriptData) (media : List (List Chunk)) (desk : Desk C) where
-  -- a caller made all its steps, and the calls that its seats made are those of its deeds
+  -- A caller made all its steps. The calls that its seats made are those of its deeds, and what they made in the pool by callers'
+  -- steps is what its deeds did to it.
   pub record CallerDid (c : ℕ) (job : Job C K) : Type 0 where
     pub deeds : List Deed
     pub acted : HasActed s media (histories_in job.seats.codecs.items) c job.results.items deeds
     pub calls : Named desk (calls_of deeds) job.seats
+    pub own : own_in c (made_by job.seats.pool.me.0) ≡ owns_of s media deeds
+    pub others : (d : ℕ) → d ≢ c → own_in d (made_by job.seats.pool.me.0) ≡ []
+
+  -- a thread of no caller made no call, and nothing in the pool by a caller's step
+  pub record NoneDid (job : Job C K) : Type 0 where
+    pub calls : Named desk [] job.seats
+    pub owned : Owned none_owned job.seats
 
   -- only callers make calls
   abbrev pub RoleDid : Role → Job C K → Type 0
-  RoleDid role.Turner job = Named desk [] job.seats
-  RoleDid role.Worker job = Named desk [] job.seats
+  RoleDid role.Turner job = NoneDid job
+  RoleDid role.Worker job = NoneDid job
   RoleDid (role.Caller c) job = CallerDid c job
 
   -- The job of this role was done, and no memory was wanted.

@@ -2,7 +2,9 @@ pub mod Roles
 pub mod Runnable
 pub mod Paid
 pub mod Acted
+pub mod Owned
 pub mod Jobs
 pub mod Threads
 pub mod Traces
 pub mod Made
+pub mod Fits

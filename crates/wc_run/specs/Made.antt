@@ -22,7 +22,8 @@ use Rattle.run_laws.specs.PoolPaid.{media_of}
 use Rattle.std.specs.List.{flat_map}
 use Rattle.shared_codec.specs.Order.{ops_at, done_at}
 use Rattle.run_laws.specs.Quiet.{IsAtRest}
-use Rattle.desk_callers.specs.Deeds.{Deed}
+use Rattle.media_accounts.specs.Accounts.{own_in}
+use Rattle.desk_callers.specs.Deeds.{Deed, owns_of}
 use Rattle.wc_base.specs.declared.who.By.TheVariants as by
 use Rattle.wc_run.specs.Acted.{HaveActed, calls_of_all}
 
@@ -32,8 +33,7 @@ calls_in opening k [] = []
 calls_in opening k (l ∷ logs) = all_dues call_dues k (opening_track (opening k)) l ++ calls_in opening (suc k) logs
 
 -- What the threads of a run of this script made; `media` has the chunks of its chunk files, and `made` the ids of the coders that
--- were handed in. Nothing is said of how the ends of items tell of their acquires, and of the order of a caller's own entries in the
--- pool.
+-- were handed in. Nothing is said of how the ends of items tell of their acquires.
 pub record IsMade (s : ScriptData) (media : List (List Chunk)) (made : List CoderId) (run : Run) : Type 0 where
   -- the passages of each codec's lock, which are a log of it, and what was recorded is their history
   pub logs : List (Log Event)
@@ -48,9 +48,11 @@ pub record IsMade (s : ScriptData) (media : List (List Chunk)) (made : List Code
   pub slots_called : SameBag (all_slots (opening_at s) 0 logs) run.slots
   pub slot_causes : (k place : ℕ) → k < length logs → by_cause (by.Codec k place) (slots_of (opening_at s) k (at k logs)) ≡ by_cause (by.Codec k place) run.slots
   -- what the pool has by each entry of a codec is what that one's log calls for by it, in order
-  pub media_causes : (k place : ℕ) → k < length logs → ops_at place (media_of (opening_at s) k (at k logs)) ≡ flat_map (done_at k place) run.pool
+  pub media_causes : (k place : ℕ) → ops_at place (media_of (opening_at s) k (at k logs)) ≡ flat_map (done_at k place) run.pool
   -- each caller made all its steps: its deeds, in order
   pub deeds : List (List Deed)
   pub acted : HaveActed s media (recorded_of run).codecs 0 run.callers deeds
   -- the calls in the codecs' logs are those of the callers' deeds, each as often
   pub calls : SameBag (calls_in (opening_at s) 0 logs) (calls_of_all deeds)
+  -- what the pool has by each caller's own steps is what its deeds did to it, in order
+  pub own : (c : ℕ) → own_in c run.pool ≡ owns_of s media (at c deeds)

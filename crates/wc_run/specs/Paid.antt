@@ -1,5 +1,5 @@
 -- A thread that made elsewhere what its entries call for.
-use Rattle.std.specs.Prelude.{List}
+use Rattle.std.specs.Prelude.{ℕ, List}
 use Rattle.shared_codec.specs.Dues.{Called}
 use Rattle.codec_desk.specs.declared.desk.Desk.{Desk}
 use Rattle.codec_desk.specs.declared.desk.Seats.{Seats}
@@ -7,6 +7,8 @@ use Rattle.codec_desk.specs.Desks.{SitAt}
 use Rattle.codec_desk.specs.Runs.{EachRunsNone}
 use Rattle.desk_threads.specs.Accounts.{Balanced, Named}
 use Rattle.desk_threads.specs.Orders.{InOrder}
+use Rattle.media_accounts.specs.Accounts.{StepOp}
+use Rattle.wc_run.specs.Owned.{Owned}
 
 module _ {C : Type 0} (desk : Desk C) where
   -- What its entries call for is what it made for codecs: each as often, and by each entry of a codec in that entry's order.
@@ -20,3 +22,4 @@ module _ {C : Type 0} (desk : Desk C) where
     pub runs : EachRunsNone desk.codecs.items a.codecs.items → EachRunsNone desk.codecs.items b.codecs.items
     pub paid : IsPaid a → IsPaid b
     pub calls : (calls : List Called) → Named desk calls a → Named desk calls b
+    pub owned : (mine : ℕ → List StepOp) → Owned mine a → Owned mine b

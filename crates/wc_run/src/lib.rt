@@ -3,6 +3,7 @@
 
 mod jobs;
 mod joining;
+mod laws;
 mod making;
 mod openings;
 mod running;
@@ -10,4 +11,5 @@ mod threads;
 mod traces;
 
 pub use jobs::{Job, Role};
+pub use laws::{callers_fit, made_fits};
 pub use running::run;

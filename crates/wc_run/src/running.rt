@@ -3,8 +3,9 @@ ghost use Rattle.std.specs.Prelude.{◌≡◌, ◌+◌, ◌<◌, ◌≤◌, None
 ghost use Rattle.run_model.specs.Fits.{IsLegalRun};
 ghost use Rattle.run_model.specs.Missing.{missing_in};
 ghost use Rattle.script_types.specs.Sound.{is_sound};
-ghost use Rattle.wc_run.specs.Made.{IsMade};
+ghost use Rattle.wc_run.specs.Fits.{FitsByThreads};
 
+use crate::laws::callers_fit;
 use crate::openings::{count_steps, openings_of};
 use crate::threads::run_desk;
 use crate::traces::run_of;
@@ -35,8 +36,8 @@ fn run_script<C: Coder, K: Clock + Send + Drop, R: Threads + Wait + Sync>(
     requires few { length clocks.items < 4294967295 }
     requires clocks { length clocks.items ≡ workers + 1 + length script.now.callers }
     ensures legal { IfOk result (λ run. IsLegalRun script.now run) }
-    ensures made { IfOk result
-        (λ run. IsMade script.now media.now (map C.coder coders.items) run) }
+    ensures fits { IfOk result
+        (λ run. FitsByThreads script.now media.now (map C.coder coders.items) run) }
 {
     accounts_are_kept::<C>();
     order_stands::<C>();
@@ -44,6 +45,7 @@ fn run_script<C: Coder, K: Clock + Send + Drop, R: Threads + Wait + Sync>(
     rest_is_quiet::<C>();
     runs_begin::<C>();
     codecs_rest();
+    callers_fit();
     let openings = openings_of(alloc, script.codecs.as_slice())?;
     let calls = count_steps(script.callers.as_slice());
     let cores = Vec::with_capacity(alloc, openings.len())?;
@@ -78,8 +80,8 @@ pub fn run<C: Coder, K: Clock + Send + Drop, R: Threads + Wait + Sync>(
     requires files { length media.now ≡ length script.now.chunk_files }
     requires chunks { missing_in script.now media.now ≡ None }
     ensures legal { IfOk result (λ run. IsLegalRun script.now run) }
-    ensures made { IfOk result
-        (λ run. IsMade script.now media.now (map C.coder coders.items) run) }
+    ensures fits { IfOk result
+        (λ run. FitsByThreads script.now media.now (map C.coder coders.items) run) }
 {
     let Some(mut clock) = clocks.pop() else {
         unreachable!()

@@ -2,6 +2,7 @@ use Rattle.std.proofs.Common.{[]}
 use Rattle.desk_threads.specs.CallLaws.{named_after}
 use Rattle.desk_callers.specs.Deeds.{calls_of, owns_of}
 use Rattle.wc_run.proofs.Together.{parts_stay}
+use Rattle.wc_run.proofs.Owning.{owned_mine, owned_others}
 use Rattle.wc_run.proofs.Paying.{paid_by}
 use Rattle.wc_run.proofs.jobs.make_steps.Goals as goal
 
@@ -39,10 +40,15 @@ returns-in-Ok-clause-paid g c none =
 pub returns-in-Ok-clause-did : goal.returns-in-Ok-clause-did
 returns-in-Ok-clause-did g c none =
     let done = c.in-Ok.ensures.done in
+    let ops = owns_of c.args.script.now c.args.media.now done.deeds in
+    let a = c.args.job.now.seats in
+    let b = c.caller_steps.new.seats in
     record {
       deeds = done.deeds;
       acted = record { results = done.results; are = done.are; all = c.in-Ok.ensures.all };
       calls = named_after c.args.desk.now c.args.job.now.seats c.caller_steps.new.seats [] (calls_of done.deeds) done.calls c.requires.new.called;
+      own = owned_mine c.args.desk.now c.args.caller ops a b done.settled c.requires.new.owned;
+      others = owned_others c.args.desk.now c.args.caller ops a b done.settled c.requires.new.owned;
     }
 
 pub returns-in-Err-clause-ready : goal.returns-in-Err-clause-ready

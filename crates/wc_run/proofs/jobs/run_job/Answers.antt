@@ -2,6 +2,8 @@ use Rattle.std.proofs.Common.{[], sym, subst}
 use Rattle.desk_threads.specs.PartLaws.{parts_after}
 use Rattle.wc_run.specs.declared.jobs.Role.{Role}
 use Rattle.wc_run.specs.Jobs.{HasDone}
+use Rattle.wc_run.specs.Owned.{none_owned}
+use Rattle.wc_run.proofs.Owning.{owned_settled}
 use Rattle.wc_run.proofs.Together.{no_more}
 use Rattle.wc_run.proofs.jobs.run_job.Goals as goal
 
@@ -22,7 +24,7 @@ returns-in-Turner g c =
       ready = record { sits = e.sits; one = parts_after desk 1 a b was.ready.one e.settled; runs = e.runs was.ready.runs };
       done = λ none. subst (λ (r : Role). HasDone c.args.script.now c.args.media.now desk r (record c.args.job.now { seats = b })) (sym c.in-Turner.is) (record {
         paid = record { balanced = c.accounts_are_kept.ensures.kept desk a b e.settled was.paid.balanced; ordered = c.order_stands.ensures.kept desk a b e.settled was.paid.ordered };
-        did = no_more desk a b [] e.calls was.called;
+        did = record { calls = no_more desk a b [] e.calls was.called; owned = owned_settled desk none_owned a b e.settled was.owned };
       });
     }
 
@@ -37,7 +39,7 @@ returns-in-Worker g c =
       ready = record { sits = e.sits; one = parts_after desk 1 a b was.ready.one e.settled; runs = e.runs was.ready.runs };
       done = λ none. subst (λ (r : Role). HasDone c.args.script.now c.args.media.now desk r (record c.args.job.now { seats = b; clock = c.item_loop.new.clock })) (sym c.in-Worker.is) (record {
         paid = record { balanced = c.accounts_are_kept.ensures.kept desk a b e.settled was.paid.balanced; ordered = c.order_stands.ensures.kept desk a b e.settled was.paid.ordered };
-        did = no_more desk a b [] e.calls was.called;
+        did = record { calls = no_more desk a b [] e.calls was.called; owned = owned_settled desk none_owned a b e.settled was.owned };
       });
     }
 

@@ -30,7 +30,7 @@ loop-job-init g c =
       ran = λ s media done. (
         subst (λ (l : List J). From (λ i j. j.wanted ≡ false → HasDone s media desk (role_at c.args.workers i) j) 0 l) (sym gives.0)
             (from_start (λ i (j : J). j.wanted ≡ false → HasDone s media desk (role_at c.args.workers i) j) c.args.jobs.items done),
-        λ paid none any. subst (λ (l : List CallerTrace). HaveRun s media desk l c.args.seats.now) (sym c.requires.empty) (run_none s media desk c.args.seats.now paid none),
+        λ paid none own any. subst (λ (l : List CallerTrace). HaveRun s media desk l c.args.seats.now) (sym c.requires.empty) (run_none s media desk c.args.seats.now paid none own),
       );
     }
 
@@ -93,9 +93,9 @@ loop-job-preserved g c =
           let r = i.ran s media done in
           let d = subst (λ (l : List J). From (λ i j. j.wanted ≡ false → HasDone s media desk (role_at w i) j) n l) steps r.0 in (
             d.1,
-            λ paid none any. (
+            λ paid none own any. (
                 let both = c.either-any.ensures any in
-                let x : HaveRun s media desk ts a = r.1 paid none both.0 in
+                let x : HaveRun s media desk ts a = r.1 paid none own both.0 in
                 let y : HasDone s media desk (role_at w n) job = d.0 both.1 in
                 let now : IsPaid desk b = record { balanced = e.balanced x.paid.balanced y.paid.balanced; ordered = c.order_stands.ensures.joined desk a job.seats b e.joined x.paid.ordered y.paid.ordered } in
                 subst (λ (l : List CallerTrace). HaveRun s media desk l b) (sym noted_as) (join_more s media desk n w ts job a b i.many e.joined now y.did x)
@@ -129,4 +129,4 @@ returns-clause-many g c =
     many ∙ ap (λ (n : ℕ). n - (c.args.workers + 1)) all
 
 pub returns-clause-ran : goal.returns-clause-ran
-returns-clause-ran g c s media done none paid called = (c.loop-job.invariant.ran s media done).1 paid called none
+returns-clause-ran g c s media done none paid called own = (c.loop-job.invariant.ran s media done).1 paid called own none

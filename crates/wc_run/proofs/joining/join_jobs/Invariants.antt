@@ -7,6 +7,7 @@ use Rattle.desk_threads.specs.Accounts.{Named}
 use Rattle.desk_threads.specs.Parts.{HaveParts}
 use Rattle.script_types.specs.declared.script.ScriptData.{ScriptData}
 use Rattle.wc_run.specs.Jobs.{IsReady, AllDone, HasDone}
+use Rattle.wc_run.specs.Owned.{Owned, none_owned}
 use Rattle.wc_run.specs.Paid.{IsPaid}
 use Rattle.wc_run.specs.Roles.{role_at}
 use Rattle.wc_run.specs.Threads.{HaveRun}
@@ -26,5 +27,5 @@ invariant-loop-job g l = record {
   room : vec_capacity l.traces ≡ vec_capacity l.fn.traces;
   ran : (s : ScriptData) (media : List (List Chunk)) → AllDone s media l.fn.desk l.fn.workers l.fn.jobs.items
       → From (λ i j. j.wanted ≡ false → HasDone s media l.fn.desk (role_at l.fn.workers i) j) l.place (into_iter_items l.job-iterator)
-      × (IsPaid l.fn.desk l.fn.seats → Named l.fn.desk [] l.fn.seats → l.any ≡ false → HaveRun s media l.fn.desk l.traces.items l.seats);
+      × (IsPaid l.fn.desk l.fn.seats → Named l.fn.desk [] l.fn.seats → Owned none_owned l.fn.seats → l.any ≡ false → HaveRun s media l.fn.desk l.traces.items l.seats);
 }

@@ -1,4 +1,5 @@
 use Rattle.wc_run.proofs.JobLists.{stays_none}
+use Rattle.wc_run.proofs.Owning.{owned_left, owned_new}
 use Rattle.wc_run.proofs.making.make_job.Goals as goal
 
 pub returns-in_err-codecs-clause-stays : goal.returns-in_err-codecs-clause-stays
@@ -11,6 +12,7 @@ returns-clause-new g c =
       ready = record { sits = e.sits.1; one = e.parts.1; runs = e.new_runs };
       paid = record { balanced = e.new; ordered = c.order_stands.ensures.new c.args.desk.now c.args.seats.now c.split_seats.new.seats c.split_seats.result e.split };
       called = e.new_calls;
+      owned = owned_new c.args.desk.now c.args.seats.now c.split_seats.new.seats c.split_seats.result e.split;
       first = (c.new-results.ensures.items, c.new-variables.ensures);
     }
 
@@ -22,6 +24,7 @@ returns-clause-stays g c =
       runs = λ x. e.runs x;
       paid = λ x. record { balanced = e.balanced x.balanced; ordered = c.order_stands.ensures.left c.args.desk.now c.args.seats.now c.split_seats.new.seats c.split_seats.result e.split x.ordered };
       calls = λ calls x. e.calls calls x;
+      owned = λ mine x. owned_left c.args.desk.now mine c.args.seats.now c.split_seats.new.seats c.split_seats.result e.split x;
     }
 
 pub returns-clause-parts : goal.returns-clause-parts

@@ -7,12 +7,13 @@ use Rattle.desk_threads.specs.Parts.{HaveParts}
 use Rattle.run_model.specs.Fits.{IsLegalRun}
 use Rattle.run_model.specs.Recorded.{opening_of}
 use Rattle.wc_run.specs.Acted.{calls_of_all}
-use Rattle.wc_run.specs.Made.{IsMade}
+use Rattle.wc_run.specs.Fits.{FitsByThreads}
 use Rattle.wc_run.specs.Paid.{IsPaid}
 use Rattle.wc_run.specs.Traces.{IsLeftBy}
 use Rattle.wc_run.proofs.Finishing.{opens_of}
+use Rattle.wc_run.proofs.Owning.{owned_first}
 use Rattle.wc_run.proofs.Scripts.{may_open, few_codecs, runnable_of}
-use Rattle.wc_run.proofs.Whole.{desk_of, is_legal, is_made}
+use Rattle.wc_run.proofs.Whole.{desk_of, fits_by_threads, is_legal, is_made}
 use Rattle.wc_run.proofs.running.run_script.Goals as goal
 
 pub open_desk-requires-clause-may : goal.open_desk-requires-clause-may
@@ -72,8 +73,8 @@ returns-in-Ok-clause-legal g c =
     let opens = opens_of c.count_steps-calls.result s.codecs desk.codecs.items (subst (λ (l : List Opening). HaveOpenings l c.count_steps-calls.result desk.codecs.items) (c.as_slice-3.ensures.value ∙ (c.in_ok-openings.ensures ∙ ap (map opening_of) c.as_slice.ensures)) c.in_ok-desk.ensures.codecs) in
     IfOk-weaker c.run_of.result (IsLeftBy ts left) (IsLegalRun s) (λ run x. is_legal s desk b left ts run opens c.finish_desk-left.ensures.finished c.in-Ok.ensures.many x) c.run_of.ensures
 
-pub returns-in-Ok-clause-made : goal.returns-in-Ok-clause-made
-returns-in-Ok-clause-made g c =
+pub returns-in-Ok-clause-fits : goal.returns-in-Ok-clause-fits
+returns-in-Ok-clause-fits g c =
     let s = c.args.script.now in
     let media = c.args.media.now in
     let made = map g.C.Coder.coder c.args.coders.items in
@@ -87,10 +88,10 @@ returns-in-Ok-clause-made g c =
     let ts = c.in-Ok.callers.items in
     let opens = opens_of c.count_steps-calls.result s.codecs desk.codecs.items (subst (λ (l : List Opening). HaveOpenings l c.count_steps-calls.result desk.codecs.items) (c.as_slice-3.ensures.value ∙ (c.in_ok-openings.ensures ∙ ap (map opening_of) c.as_slice.ensures)) opened.codecs) in
     let paid : IsPaid desk a = record { balanced = c.accounts_are_kept.ensures.first desk a opened.none; ordered = c.order_stands.ensures.first desk a opened.sits opened.none } in
-    let x = c.in-Ok.ensures.ran paid (c.calls_are_kept.ensures.first desk a opened.none) in
+    let x = c.in-Ok.ensures.ran paid (c.calls_are_kept.ensures.first desk a opened.none) (owned_first a opened.none.pool) in
     let balanced = c.accounts_are_kept.ensures.all desk b all x.paid.balanced in
     let whole = c.order_stands.ensures.all desk b all x.paid.ordered in
     let calls = c.calls_are_kept.ensures.all desk b (calls_of_all x.deeds) all x.calls in
     let quiet = c.rest_is_quiet.ensures desk e.rested.0 b all (e.runs (c.runs_begin.ensures desk a opened.sits opened.none)) e.rested.1 in
-    IfOk-weaker c.run_of.result (IsLeftBy ts left) (IsMade s media made)
-    (λ run y. is_made c.codecs_rest.ensures s media made desk b left ts run opens e.sits opened.made_is c.finish_desk-left.ensures.finished balanced whole quiet x calls y) c.run_of.ensures
+    IfOk-weaker c.run_of.result (IsLeftBy ts left) (FitsByThreads s media made)
+    (λ run y. fits_by_threads c.callers_fit.ensures s media made run (is_made c.codecs_rest.ensures s media made desk b left ts run opens e.sits opened.made_is c.finish_desk-left.ensures.finished balanced whole quiet x calls all.pool y)) c.run_of.ensures

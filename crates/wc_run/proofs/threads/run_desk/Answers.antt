@@ -23,6 +23,6 @@ returns-clause-ran g c =
     let b = c.settle_desk.new.seats in
     let e = c.settle_desk.ensures in
     IfOk-weaker c.run_threads-traces.result (λ ts. RunsFrom s media desk a ts.items m) (λ ts. RunsFrom s media desk a ts.items b)
-    (λ ts x paid none. (let y = x paid none in
+    (λ ts x paid none own. (let y = x paid none own in
     run_settled s media desk ts.items m b e.settled e.calls (record { balanced = c.accounts_are_kept.ensures.kept desk m b e.settled y.paid.balanced; ordered = c.order_stands.ensures.kept desk m b e.settled y.paid.ordered }) y))
     c.run_threads-traces.ensures.ran

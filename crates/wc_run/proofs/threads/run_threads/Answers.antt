@@ -1,6 +1,7 @@
 use Rattle.std.proofs.Common.{[], ℕ, subst}
 use Rattle.std.proofs.lemmas.Result.{IfOk-weaker}
 use Rattle.desk_threads.specs.Parts.{HaveParts}
+use Rattle.wc_run.specs.Owned.{none_owned}
 use Rattle.wc_run.specs.Threads.{RunsFrom}
 use Rattle.wc_run.proofs.JobLists.{new_ready}
 use Rattle.wc_run.proofs.threads.run_threads.Goals as goal
@@ -37,7 +38,7 @@ returns-in-Ok-make_jobs-clause-ran g c =
     let a = c.args.seats.now in
     let m = c.make_jobs.new.seats in
     let b = c.do_jobs.new.seats in
-    IfOk-weaker c.do_jobs.result (λ ts. RunsFrom s media desk m ts.items b) (λ ts. RunsFrom s media desk a ts.items b) (λ ts x paid none. x (stays.paid paid) (stays.calls [] none)) c.do_jobs.ensures.ran
+    IfOk-weaker c.do_jobs.result (λ ts. RunsFrom s media desk m ts.items b) (λ ts. RunsFrom s media desk a ts.items b) (λ ts x paid none own. x (stays.paid paid) (stays.calls [] none) (stays.owned none_owned own)) c.do_jobs.ensures.ran
 
 pub returns-in-Err-clause-parts : goal.returns-in-Err-clause-parts
 returns-in-Err-clause-parts g c =
