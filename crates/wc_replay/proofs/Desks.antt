@@ -10,7 +10,7 @@ use Rattle.codec_model.specs.declared.entry.{Ended.Ended, Entry.Entry, Item.Item
 use Rattle.codec_model.specs.Control.{Control, kind_of, front, start_item, may_start}
 use Rattle.codec_model.specs.Replay.{State, missing_coder, answer_to, turn_step}
 use Rattle.codec_core.specs.Codec.{Codec, item_parts, state_at, Makes, kept_box, handed_back}
-use Rattle.codec_core.specs.Job.{JobValue, DoneValue, EndsBy, outcome_of, stopped_box, missing_id}
+use Rattle.codec_core.specs.Job.{JobValue, DoneValue, EndsBy, outcome_of, wants, stopped_box, missing_id}
 use Rattle.codec_accounts.specs.Boxes.{Act, act_of, start_act, removal_act}
 use Rattle.codec_model.specs.Held.{running_pairs}
 use Rattle.media_variables.specs.Variables.{Media}
@@ -75,11 +75,11 @@ makes_seen k o s next m after c d new is made = subst (λ (x : CodecValue). desk
 -- ---- ends
 
 -- an end by the definition's answer is the outcome of that answer, or memory was wanted
-pub outcome_is : (answer : Option (List media.Unit)) (e : Ended) → EndsBy answer e → (wants : Bool) × (outcome_of e ≡ outcome_for wants None answer)
-outcome_is answer (Ended.Ran units) is = (false, rw is refl)
-outcome_is answer Ended.Refused is = (false, rw is refl)
+pub outcome_is : (answer : Option (List media.Unit)) (e : Ended) → EndsBy answer e → outcome_of e ≡ outcome_for (wants e) None answer
+outcome_is answer (Ended.Ran units) is = rw is refl
+outcome_is answer Ended.Refused is = rw is refl
 outcome_is answer (Ended.NoSlot entry) is = absurd is
-outcome_is answer Ended.NoMemory is = (true, refl)
+outcome_is answer Ended.NoMemory is = refl
 
 abbrev with_box : Option BoxOut → Holding
 with_box x = record { box = x; refusal = None }

@@ -12,16 +12,20 @@ use Rattle.run_model.specs.declared.run.CodecTrace.{CodecTrace}
 use Rattle.run_model.specs.declared.run.CallerTrace.{CallerTrace}
 use Rattle.run_model.specs.Recorded.{opening_in}
 use Rattle.codec_accounts.specs.Codec.{CodecValue, codec_at, histories}
-use Rattle.run_model.specs.Fits.{FollowsTheOrder, AreLegalTraces, IsLegalRun}
+use Rattle.run_model.specs.Fits.{FollowsTheOrder, AreLegalTraces, IsLegalRun, recorded_of}
+use Rattle.run_model.specs.Follow.{Course, record_of}
 use Rattle.order_laws.specs.Course.{IsCourse}
-use Rattle.wc_replay.specs.Player.{IsPlayed, trace_of, caller_trace}
+use Rattle.wc_replay.specs.Player.{IsPlayed, IsRunOf, trace_of, caller_trace}
+
+-- what a run recorded is what its course made
+pub played_recorded : (course : Course) (run : Run) → IsRunOf course run → recorded_of run ≡ record_of course
+played_recorded course run is =
+    let callers : map (λ (c : CallerTrace). c.results) run.callers ≡ course.callers = ap (map (λ (c : CallerTrace). c.results)) is.callers ∙ (map-map (λ (c : CallerTrace). c.results) caller_trace course.callers ∙ map-id course.callers) in
+    let codecs : map (λ (t : CodecTrace). t.entries) run.codecs ≡ histories course.codecs = ap (map (λ (t : CodecTrace). t.entries)) is.codecs ∙ map-map (λ (t : CodecTrace). t.entries) trace_of course.codecs in
+    λ i. record { callers = callers i; codecs = codecs i; pool = is.pool i; slots = is.slots i }
 
 pub played_follows : (s : ScriptData) (media : List (List Chunk)) (made : List CoderId) (run : Run) → IsPlayed s media made run → FollowsTheOrder s media made run
-played_follows s media made run p =
-    let is = p.holds in
-    let callers : map (λ (c : CallerTrace). c.results) run.callers ≡ p.course.callers = ap (map (λ (c : CallerTrace). c.results)) is.callers ∙ (map-map (λ (c : CallerTrace). c.results) caller_trace p.course.callers ∙ map-id p.course.callers) in
-    let codecs : map (λ (t : CodecTrace). t.entries) run.codecs ≡ histories p.course.codecs = ap (map (λ (t : CodecTrace). t.entries)) is.codecs ∙ map-map (λ (t : CodecTrace). t.entries) trace_of p.course.codecs in
-    record { course = p.course; follows = p.follows; is_recorded = λ i. record { callers = callers i; codecs = codecs i; pool = is.pool i; slots = is.slots i } }
+played_follows s media made run p = record { course = p.course; follows = p.follows; is_recorded = played_recorded p.course run p.holds }
 
 legal_traces : (cs : List CodecItem) (ds : List CodecValue) → length ds ≡ length cs → ((k : ℕ) → (codec_at k ds).opening ≡ opening_in cs k) → ((k : ℕ) → IsLegal (codec_at k ds).opening (codec_at k ds).history) → AreLegalTraces cs (map trace_of ds)
 legal_traces [] [] long openings legal = tt

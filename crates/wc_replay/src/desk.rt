@@ -4,7 +4,7 @@ ghost use Rattle.codec_accounts.specs.Codec.{new_codec, state_of, next_by, after
 ghost use Rattle.codec_core.specs.declared.out.Out.{Out};
 ghost use Rattle.codec_core.specs.Codec.{state_at, Makes as CoreMakes, KeepsRunning, IsBack, kept_box, handed_back, box_stays, closes_now};
 ghost use Rattle.codec_core.specs.Owning.{IsOwnJob};
-ghost use Rattle.codec_core.specs.Job.{IsJobOf, IsEndOf, outcome_of};
+ghost use Rattle.codec_core.specs.Job.{IsJobOf, IsEndOf, outcome_of, wants};
 ghost use Rattle.codec_model.specs.declared.entry.Entry.TheVariants as entry;
 ghost use Rattle.codec_model.specs.Control.{kind_of};
 ghost use Rattle.codec_model.specs.Held.{held_in, in_order, adds_held, lets_go};
@@ -159,7 +159,8 @@ impl<C: Coder> Desk<C> {
         Ok(())
     }
 
-    /// The end of the running item: its job is done, the box that it lets go goes back, and its reference ends.
+    /// The end of the running item: its job is done, or ends for want of memory where it is starved; the box that it lets
+    /// go goes back, and its reference ends. The answer is whether memory was wanted.
     fn done(
         &mut self,
         alloc: Global,
@@ -167,21 +168,25 @@ impl<C: Coder> Desk<C> {
         slots: &mut Slots<C>,
         media: &mut CallerMedia,
         moment: u64,
-    )
+        starved: bool,
+    ) -> bool
         requires givable { IsGivable slots.old.history
             (next_by codec self.old) self.old.holding.box }
         requires lent { AreApart media.old.pool media.old.variables
             (held_in (state_of self.old)) }
-        ensures { (wants : Bool)
-            × Makes codec (done_entry wants moment self.old) slots.old slots.new
+        ensures { Makes codec (done_entry result moment self.old) slots.old slots.new
             media.old media.new self.old self.new }
     {
         if let Some(job) = self.job.take() {
-            let done = end_of_job(alloc, job, self.refusal.take());
+            let done = end_of_job(alloc, job, self.refusal.take(), starved);
+            let wanted = done.wants_memory();
             let back = self.core.done(done, moment);
             let place = back.place;
             media.end_one(By::Codec { codec, place }, back.media);
             give(slots, By::Codec { codec, place }, back.coder);
+            wanted
+        } else {
+            starved
         }
     }
 
@@ -214,7 +219,8 @@ impl<C: Coder> Desk<C> {
         }
     }
 
-    /// An item of the order that names this codec, the one with this number; nothing where it finds nothing to do.
+    /// An item of the order that names this codec, the one with this number; nothing where it finds nothing to do. The
+    /// answer is whether its end wanted memory, as it does where it is starved; that alone stands for what is no end.
     pub(crate) fn take(
         &mut self,
         alloc: Global,
@@ -222,24 +228,26 @@ impl<C: Coder> Desk<C> {
         slots: &mut Slots<C>,
         media: &mut CallerMedia,
         item: OrderItem,
-    ) -> Result<(), NoMemory>
+        starved: bool,
+    ) -> Result<bool, NoMemory>
         requires givable { IsGivable slots.old.history
             (next_by codec self.old) self.old.holding.box }
         requires lent { AreApart media.old.pool media.old.variables
             (held_in (state_of self.old)) }
-        ensures { OnOk result
-            ((wants : Bool)
-            × Makes codec (item_entry wants item self.old) slots.old slots.new
+        ensures { IfOk result
+            (λ wants. Makes codec (item_entry wants item self.old) slots.old slots.new
             media.old media.new self.old self.new) }
     {
         match item {
             OrderItem::Caller(_) => {}
             OrderItem::Start(_) => self.start(codec, slots)?,
-            OrderItem::Done { codec: _, at } => self.done(alloc, codec, slots, media, at),
+            OrderItem::Done { codec: _, at } => {
+                return Ok(self.done(alloc, codec, slots, media, at, starved));
+            }
             OrderItem::Turn(_) => self.turn(codec, slots, media),
             OrderItem::Reclaim { codec: _, at } => self.reclaim(codec, slots, media, at),
         }
-        Ok(())
+        Ok(starved)
     }
 
     /// The number of entries, the state, and the number of coded messages in the queue.
@@ -326,23 +334,34 @@ fn ask<C: Coder>(
     }
 }
 
-// The end of a job: no box was free, or it did its work, or memory was wanted.
-fn end_of_job<C: Coder>(alloc: Global, job: Job<C>, refusal: Option<u64>) -> DoneJob<C>
+// The end of a job: it is starved, or no box was free, or it did its work, or memory was wanted.
+fn end_of_job<C: Coder>(
+    alloc: Global,
+    job: Job<C>,
+    refusal: Option<u64>,
+    starved: bool,
+) -> DoneJob<C>
     requires { LacksBox job refusal }
     ensures end { (s : State) → IsJobOf s job → IsEndOf s result }
     ensures own { (out : Out) → IsOwnJob out job → IsBack out result.coder }
-    ensures outcome { (s : State) → IsJobOf s job → (wants : Bool)
-        ×
-        (outcome_of result.ended
-        ≡ outcome_for wants refusal (answer_to (kind_of job.work) s.running_given)) }
+    ensures outcome { (s : State) → IsJobOf s job
+        → outcome_of result.ended
+        ≡ outcome_for (wants result.ended) refusal
+        (answer_to (kind_of job.work) s.running_given) }
     ensures epoch { result.epoch ≡ job.epoch }
     ensures number { result.number ≡ job.number }
     ensures slot { option_map box_out result.coder ≡ option_map box_out job.coder }
 {
     match refusal {
-        Some(entry) => job.no_slot(entry),
+        Some(entry) => {
+            if starved {
+                job.no_memory()
+            } else {
+                job.no_slot(entry)
+            }
+        }
         None => {
-            if job.lacks().is_some() {
+            if starved || job.lacks().is_some() {
                 job.no_memory()
             } else {
                 run(alloc, job)

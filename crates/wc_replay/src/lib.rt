@@ -12,5 +12,5 @@ mod showings;
 mod steps;
 
 pub use missing::missing_chunk;
-pub use order_laws::following_fits;
-pub use playing::replay;
+pub use order_laws::{following_fits, listed_ends_make_one_run};
+pub use playing::{replay, replay_with};

@@ -1,5 +1,5 @@
 // What callers and the order do to one codec among all, with the boxes and the references that it takes and lets go.
-ghost use Rattle.std.specs.Prelude.{◌≡◌, ◌<◌, Bool, IfOk, OnOk, length, map, slice_set, true};
+ghost use Rattle.std.specs.Prelude.{◌≡◌, ◌<◌, IfOk, OnOk, length, map, slice_set, true};
 ghost use Rattle.codec_accounts.specs.Codec.{codec_at, codecs_after, slots_by, state_of, next_by, IsGivable};
 ghost use Rattle.codec_model.specs.declared.entry.Entry.TheVariants as entry;
 ghost use Rattle.codec_model.specs.Held.{held_in, in_order, adds_held, lets_go};
@@ -90,7 +90,7 @@ pub(crate) fn refusal_at<C: Coder>(
     desk_at(desks, codec).encode_refusal(detached)
 }
 
-/// An item of the order that names the codec with this number.
+/// An item of the order that names the codec with this number, and whether its end wanted memory.
 pub(crate) fn take_at<C: Coder>(
     desks: &mut Vec<Desk<C>>,
     slots: &mut Slots<C>,
@@ -98,17 +98,16 @@ pub(crate) fn take_at<C: Coder>(
     codec: u32,
     alloc: Global,
     item: OrderItem,
-) -> Result<(), NoMemory>
+    starved: bool,
+) -> Result<bool, NoMemory>
     requires codec { codec < length desks.old.items }
     requires givable { IsGivable slots.old.history
         (next_by codec (codec_at codec desks.old.items))
         (codec_at codec desks.old.items).holding.box }
     requires lent { AreApart media.old.pool media.old.variables
         (held_in (state_of (codec_at codec desks.old.items))) }
-    ensures { OnOk result
-        ((wants : Bool)
-        ×
-        (desks.new.items
+    ensures { IfOk result
+        (λ wants. (desks.new.items
         ≡ slice_set desks.old.items codec
         (codec_by codec (item_entry wants item (codec_at codec desks.old.items)) slots.old
         (codec_at codec desks.old.items)))
@@ -122,7 +121,7 @@ pub(crate) fn take_at<C: Coder>(
         (codec_at codec desks.old.items) media.old)) }
 {
     match desks.get_mut(codec as usize) {
-        Some(desk) => desk.take(alloc, codec, slots, media, item),
+        Some(desk) => desk.take(alloc, codec, slots, media, item, starved),
         None => unreachable!(),
     }
 }

@@ -1,8 +1,9 @@
 // Replays a script.
 ghost use Rattle.std.specs.Prelude.{◌≡◌, ◌≤◌, IfOk, OnOk, IsSome, None, map, length, true};
 ghost use Rattle.std.specs.List.{list_all};
-ghost use Rattle.run_model.specs.Fits.{IsLegalRun, FitsInOrder};
-ghost use Rattle.run_model.specs.Follow.{Follows, nothing_yet, order_items};
+ghost use Rattle.run_model.specs.Fits.{IsLegalRun, FitsInOrder, recorded_of};
+ghost use Rattle.run_model.specs.Follow.{Follows, nothing_yet, order_items, record_of};
+ghost use Rattle.order_laws.specs.Ends.{course_with};
 ghost use Rattle.run_model.specs.Recorded.{opening_of};
 ghost use Rattle.run_model.specs.Missing.{missing_in};
 ghost use Rattle.wc_replay.specs.Player.{IsPlayable, is_openable, new_desk, new_results, trace_of, caller_trace, IsRunOf, IsPlayed};
@@ -83,7 +84,32 @@ fn take_items<C: Coder>(
 {
     for item in items_of(script) {
         following_stands();
-        player.take(alloc, script, media, *item)?;
+        player.take(alloc, script, media, *item, false)?;
+    }
+    Ok(())
+}
+
+/// Takes the items of the order, one after another, where the listed ends want memory. Where another one does, memory is
+/// wanted of the call.
+fn take_items_with<C: Coder>(
+    player: &mut Player<C>,
+    alloc: Global,
+    script: &ScriptData,
+    media: &[List<Chunk>],
+    listed: &[(u32, u64)],
+) -> Result<(), NoMemory>
+    requires playable { IsPlayable script.now }
+    requires nothing { player.old ≡ nothing_yet script.now player.old.slots.made }
+    ensures { OnOk result
+        (player.new
+        ≡ course_with listed.now script.now media.now (order_items script.now) player.old) }
+{
+    for item in items_of(script) {
+        following_stands();
+        let starved = player.is_listed_end(listed, *item);
+        if player.take(alloc, script, media, *item, starved)? != starved {
+            return Err(NoMemory);
+        }
     }
     Ok(())
 }
@@ -175,6 +201,25 @@ fn play<C: Coder>(
     run_of(alloc, player)
 }
 
+/// Follows the script's order item after item, where the listed ends want memory.
+fn play_with<C: Coder>(
+    alloc: Global,
+    script: &ScriptData,
+    media: &[List<Chunk>],
+    coders: Vec<C>,
+    listed: &[(u32, u64)],
+) -> Result<Run, NoMemory>
+    requires codecs { list_all is_openable script.now.codecs ≡ true }
+    requires playable { IsPlayable script.now }
+    ensures { IfOk result
+        (IsRunOf (course_with listed.now script.now media.now (order_items script.now)
+        (nothing_yet script.now (map C.coder coders.items)))) }
+{
+    let mut player = open_player(alloc, script, coders)?;
+    take_items_with(&mut player, alloc, script, media, listed)?;
+    run_of(alloc, player)
+}
+
 /// Follows the script's order item after item, with these coders for its codecs: each item is a caller's next step, the
 /// start or end of a work item, the turn of an event task, or a reclaim; one that finds nothing to do is passed over. The
 /// answer is a legal run that fits the script.
@@ -196,4 +241,31 @@ pub fn replay<C: Coder>(
     following_fits();
     following_stands();
     play(alloc, script.data(), media, coders)
+}
+
+/// A replay in which it is said which ends say that memory was wanted: as `replay`, but the end of an item says so exactly
+/// where its entry is listed, by its codec's number and its place in that codec's history. Listed entries that are not made,
+/// or are no ends, change nothing. The run is a function of the script, its chunk files, the coders' ids and the list.
+///
+/// Where an item wants memory whose end is not listed, memory is wanted of the call.
+pub fn replay_with<C: Coder>(
+    alloc: Global,
+    script: &Script,
+    media: &[List<Chunk>],
+    coders: Vec<C>,
+    listed: &[(u32, u64)],
+) -> Result<Run, NoMemory>
+    requires order { IsSome script.now.order }
+    requires files { length media.now ≡ length script.now.chunk_files }
+    requires chunks { missing_in script.now media.now ≡ None }
+    ensures legal { IfOk result (λ run. IsLegalRun script.now run) }
+    ensures fits { IfOk result (λ run. FitsInOrder script.now media.now (map C.coder coders.items) run) }
+    ensures made { IfOk result
+        (λ run. recorded_of run
+        ≡ record_of (course_with listed.now script.now media.now (order_items script.now)
+        (nothing_yet script.now (map C.coder coders.items)))) }
+{
+    following_fits();
+    following_stands();
+    play_with(alloc, script.data(), media, coders, listed)
 }

@@ -1,5 +1,5 @@
 // The steps of the callers, and the items of the order.
-ghost use Rattle.std.specs.Prelude.{◌≡◌, ◌≤◌, ◌<◌, Bool, [], false, true, Some, OnOk, IfOk, is_some, length, slice_get, option_copied, option_map, None};
+ghost use Rattle.std.specs.Prelude.{◌≡◌, ◌≤◌, ◌<◌, [], false, true, Some, OnOk, IfOk, is_some, length, slice_get, option_copied, option_map, None};
 ghost use Rattle.codec_accounts.specs.Codec.{codec_at, state_of, AreGivable};
 ghost use Rattle.codec_accounts.specs.Owed.{at};
 ghost use Rattle.codec_model.specs.declared.entry.Entry.TheVariants as entry;
@@ -10,6 +10,7 @@ ghost use Rattle.media_accounts.specs.Accounts.{AreLent};
 ghost use Rattle.media_variables.specs.Held.{medium_found};
 ghost use Rattle.media_variables.specs.declared.lending.MediumFound.TheVariants as found;
 ghost use Rattle.order_laws.specs.Course.{held_by_codecs};
+ghost use Rattle.order_laws.specs.Ends.{is_listed, is_listed_end};
 ghost use Rattle.script_types.specs.Names.{taken_from};
 ghost use Rattle.script_types.specs.declared.steps.Step.TheVariants as a_step;
 ghost use Rattle.media_variables.specs.Variables.{Brought, lendable_at, media_came, next_numbers};
@@ -51,6 +52,15 @@ impl<C: Coder> Model for Player<C> {
     ghost Value = { Course };
 
     ghost view = { λ p. record { callers = p.callers.items; codecs = p.desks.items; media = p.media; slots = p.slots } };
+}
+
+/// Whether the entry at this place of the codec with this number is listed.
+fn is_listed(listed: &[(u32, u64)], codec: u32, place: u64) -> bool
+    ensures { result ≡ is_listed listed.now codec place }
+{
+    listed
+        .iter()
+        .any(|entry| entry.0 == codec && entry.1 == place)
 }
 
 /// The exception of a chunk's init; a chunk of a file has none.
@@ -529,18 +539,22 @@ impl<C: Coder> Player<C> {
         }
     }
 
-    /// An item of the order that names the codec with this number.
-    fn advance(&mut self, alloc: Global, codec: u32, item: OrderItem) -> Result<(), NoMemory>
+    /// An item of the order that names the codec with this number, and whether its end wanted memory.
+    fn advance(
+        &mut self,
+        alloc: Global,
+        codec: u32,
+        item: OrderItem,
+        starved: bool,
+    ) -> Result<bool, NoMemory>
         requires codec { codec < length self.old.codecs }
         requires givable { AreGivable self.old.codecs self.old.slots.history }
         requires lent { AreLent self.old.media.pool self.old.media.variables
             (held_by_codecs self.old.codecs) }
-        ensures { OnOk result
-            ((wants : Bool)
-            ×
-            (self.new
+        ensures { IfOk result
+            (λ wants. self.new
             ≡ after_move
-            (advance codec (item_entry wants item (codec_at codec self.old.codecs))) self.old)) }
+            (advance codec (item_entry wants item (codec_at codec self.old.codecs))) self.old) }
     {
         let Player {
             desks,
@@ -548,17 +562,19 @@ impl<C: Coder> Player<C> {
             media,
             slots,
         } = self;
-        take_at(desks, slots, media, codec, alloc, item)
+        take_at(desks, slots, media, codec, alloc, item, starved)
     }
 
-    /// One item of the order.
+    /// One item of the order. The answer is whether it is an end that wanted memory; where it is starved an end does, and
+    /// the same stands for what is no end.
     pub(crate) fn take(
         &mut self,
         alloc: Global,
         script: &ScriptData,
         media: &[List<Chunk>],
         item: OrderItem,
-    ) -> Result<(), NoMemory>
+        starved: bool,
+    ) -> Result<bool, NoMemory>
         requires codecs { length self.old.codecs ≡ length script.now.codecs }
         requires callers { length self.old.media.variables ≡ length script.now.callers }
         requires playable { IsPlayable script.now }
@@ -566,15 +582,31 @@ impl<C: Coder> Player<C> {
         requires givable { AreGivable self.old.codecs self.old.slots.history }
         requires lent { AreLent self.old.media.pool self.old.media.variables
             (held_by_codecs self.old.codecs) }
-        ensures { OnOk result
-            ((wants : Bool) × (self.new ≡ follow_item script.now media.now wants item self.old)) }
+        ensures { IfOk result
+            (λ wants. self.new ≡ follow_item script.now media.now wants item self.old) }
     {
         match item {
-            OrderItem::Caller(caller) => self.next(alloc, script, media, caller),
-            OrderItem::Start(codec) => self.advance(alloc, codec, item),
-            OrderItem::Done { codec, at: _ } => self.advance(alloc, codec, item),
-            OrderItem::Turn(codec) => self.advance(alloc, codec, item),
-            OrderItem::Reclaim { codec, at: _ } => self.advance(alloc, codec, item),
+            OrderItem::Caller(caller) => {
+                self.next(alloc, script, media, caller)?;
+                Ok(starved)
+            }
+            OrderItem::Start(codec) => self.advance(alloc, codec, item, starved),
+            OrderItem::Done { codec, at: _ } => self.advance(alloc, codec, item, starved),
+            OrderItem::Turn(codec) => self.advance(alloc, codec, item, starved),
+            OrderItem::Reclaim { codec, at: _ } => self.advance(alloc, codec, item, starved),
+        }
+    }
+
+    /// Whether the item is an end whose entry would be a listed one.
+    pub(crate) fn is_listed_end(&self, listed: &[(u32, u64)], item: OrderItem) -> bool
+        requires { IsInRange (length self.now.codecs) item }
+        ensures { result ≡ is_listed_end listed.now item self.now }
+    {
+        match item {
+            OrderItem::Done { codec, at: _ } => {
+                is_listed(listed, codec, place_at(&self.desks, codec))
+            }
+            _ => false,
         }
     }
 }

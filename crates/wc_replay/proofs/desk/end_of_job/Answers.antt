@@ -4,5 +4,4 @@ use Rattle.wc_replay.proofs.desk.end_of_job.Goals as goal
 
 pub returns-else-is_some-clause-outcome : goal.returns-else-is_some-clause-outcome
 returns-else-is_some-clause-outcome g c = λ s is.
-    let ends = outcome_is (answer_to (kind_of c.args.job.work) s.running_given) c.run.result.ended (c.run.ensures.answer s.running_given is.given) in
-    (ends.0, rw c.in-None.is ends.1)
+    rw c.in-None.is (outcome_is (answer_to (kind_of c.args.job.work) s.running_given) c.run.result.ended (c.run.ensures.answer s.running_given is.given))

@@ -20,6 +20,5 @@ loop-item-preserved g c =
     let s = c.args.script.now in
     let i = c.loop-item.item-index in
     let x = slice_index_or c.items_of-item-items.result.now i (OrderItem.Caller 0) in
-    let made = c.in_ok-take.ensures in
-    follows_to s c.args.media.now i x made.0 (nothing_yet s c.args.player.now.slots.made) c.loop-item.player c.take.new.self
-    (item_at (order_items s) c.items_of-item-items.result.now i (OrderItem.Caller 0) c.items_of-item-items.ensures c.loop-item-test.true) c.loop-item.invariant made.1
+    follows_to s c.args.media.now i x c.in_ok-take.field-0 (nothing_yet s c.args.player.now.slots.made) c.loop-item.player c.take.new.self
+    (item_at (order_items s) c.items_of-item-items.result.now i (OrderItem.Caller 0) c.items_of-item-items.ensures c.loop-item-test.true) c.loop-item.invariant c.in_ok-take.ensures

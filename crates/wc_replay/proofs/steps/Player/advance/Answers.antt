@@ -1,5 +1,5 @@
 use Rattle.std.proofs.Common.{ap, ◌∙◌}
-use Rattle.std.proofs.lemmas.Result.{on_ok_weaker}
+use Rattle.std.proofs.lemmas.Result.{IfOk-weaker}
 use Rattle.codec_accounts.specs.Codec.{codec_at}
 use Rattle.run_model.specs.Follow.{Course, after_move, advance, item_entry}
 use Rattle.wc_replay.proofs.Looks.{advance_is}
@@ -10,6 +10,6 @@ returns g c =
     let p = c.self.inside in
     let v : Course = record { callers = p.callers.items; codecs = p.desks.items; media = p.media; slots = p.slots } in
     let k = c.args.codec in
-    on_ok_weaker c.take_at.result
-    (λ made. (made.0, advance_is v k (item_entry made.0 c.args.item (codec_at k v.codecs)) c.take_at.new.desks.items c.take_at.new.media c.take_at.new.slots made.1 made.2 made.3 ∙ ap (λ (u : Course). after_move (advance k (item_entry made.0 c.args.item (codec_at k u.codecs))) u) c.self.view_is))
+    IfOk-weaker c.take_at.result _ _
+    (λ wants made. advance_is v k (item_entry wants c.args.item (codec_at k v.codecs)) c.take_at.new.desks.items c.take_at.new.media c.take_at.new.slots made.0 made.1 made.2 ∙ ap (λ (u : Course). after_move (advance k (item_entry wants c.args.item (codec_at k u.codecs))) u) c.self.view_is)
     c.take_at.ensures
