@@ -1,0 +1,7 @@
+mod Loops
+mod Names
+mod Steps
+mod Counts
+mod Whole
+mod Numbers
+mod Rows
