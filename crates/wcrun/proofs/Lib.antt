@@ -4,5 +4,6 @@ mod OutcomeLaws
 mod Outcomes
 mod Stopping
 mod Probing
+mod Loads
 mod Headlines
 mod Texts

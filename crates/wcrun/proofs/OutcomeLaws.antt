@@ -6,7 +6,7 @@ use Rattle.script_types.specs.{declared.fault.Counted.Counted, declared.fault.Fa
 use Rattle.media_files.specs.Laws.{OneReading, SomeReading}
 use Rattle.wc_demux.specs.Media.{IsMediaFile, IsMediaFault, IsMediaRead}
 use Rattle.wc_demux.specs.declared.media.MediaFile.{MediaFile}
-use Rattle.wcrun.specs.Outcome.{Outcome, Tells, Playable, playable_of, ready_of, Becomes, ComesBy, IsProbed}
+use Rattle.wcrun.specs.Outcome.{Outcome, Tells, Loads, Playable, playable_of, ready_of, Becomes, ComesBy, IsProbed}
 use Rattle.wcrun.specs.Headline.{Holding}
 use Rattle.wcrun.specs.Laws.{OneOutcome, SomeOutcome}
 use Rattle.wcrun.specs.Probe.{media_line, IsMediaLine}
@@ -71,10 +71,12 @@ by_length name bytes read false h = by_read name bytes (not_more most_file (leng
 by_verb : OneReading → MediaLaws → (v : Verb) (name : List ℕ) (files : Holding) (bytes : List ℕ) (a b : Outcome) → ComesBy v name files bytes a → ComesBy v name files bytes b → a ≡ b
 by_verb one laws (Verb.Run mode) name files bytes a b p q = same_becomes one files (playable_of mode bytes) a b p q
 by_verb one laws Verb.Probe name files bytes a b p q = same_probed laws name bytes a b p q
+by_verb one laws (Verb.Load load) name files bytes a b p q = p ∙ sym q
 
 some_by : SomeReading → MediaLaws → (v : Verb) (name : List ℕ) (files : Holding) (bytes : List ℕ) → (outcome : Outcome) × ComesBy v name files bytes outcome
 some_by some laws (Verb.Run mode) name files bytes = some_becomes some files (playable_of mode bytes)
 some_by some laws Verb.Probe name files bytes = by_length name bytes (laws.some bytes) (nat_lt most_file (length bytes)) refl
+some_by some laws (Verb.Load load) name files bytes = (Ok Loads, refl)
 
 pub one_outcome : OneReading → MediaLaws → OneOutcome
 one_outcome one laws c files bytes a b p q = by_verb one laws c.verb c.file files bytes a b p q

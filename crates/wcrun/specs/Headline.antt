@@ -1,8 +1,8 @@
--- What `replay FILE`, `run FILE` and `probe FILE` write, and with which status they end.
+-- What `replay FILE`, `run FILE`, `probe FILE` and `load START N` write, and with which status they end.
 --
--- Status 0 is a whole report, or the line of a media file, 6 is want of memory, 5 is a failed sink, and 2, 3, 4 and 7 are refusals. What is said of the
+-- Status 0 is a whole report, the line of a media file, or the summary of a load, 6 is want of memory, 5 is a failed sink, and 2, 3, 4 and 7 are refusals. What is said of the
 -- bytes of files and of the sink holds where they tell them.
-use Rattle.std.specs.Prelude.{ℕ, ◌≡◌, ◌≢◌, ◌⊎◌, List, [], ◌∷◌, ◌++◌, Option, Some, None, IfSome, IsSomeAnd, MatchOption, Result, Ok, Err}
+use Rattle.std.specs.Prelude.{ℕ, ◌≡◌, ◌≢◌, ◌⊎◌, List, [], ◌∷◌, ◌++◌, Option, Some, None, IfSome, IsSomeAnd, MatchOption, Ok, Err}
 use Rattle.wc_base.specs.Causes.{Rose, RoseBy}
 use Rattle.wc_base.specs.Told.{appended, AppendsPart}
 use Rattle.wc_config.specs.declared.codec.CoderId.{CoderId}
@@ -11,14 +11,16 @@ use Rattle.script_types.specs.declared.fault.Fault.{Fault}
 use Rattle.script_types.specs.declared.fault.Fault.TheVariants as fault
 use Rattle.chunk_files.specs.declared.fault.Stop.TheVariants as stop
 use Rattle.script_types.specs.declared.script.ScriptData.{ScriptData}
+use Rattle.load_script.specs.declared.words.Load.{Load}
 use Rattle.run_model.specs.declared.run.Run.{Run}
 use Rattle.run_model.specs.Fits.{IsLegalRun, FitsInOrder}
-use Rattle.wc_run.specs.Made.{IsMade}
+use Rattle.wc_run.specs.Fits.{FitsByThreads}
 use Rattle.trace_text.specs.Report.{report_of}
 use Rattle.media_files.specs.Media.{IsReached}
 use Rattle.wcrun.specs.Refusals.{status_of, line_of, usage_line, memory_line}
 use Rattle.wcrun.specs.Outcome.{Ready, Ending, Runs, Outcome, playable_of, IsOutcome}
 use Rattle.wcrun.specs.Probe.{IsMediaLine}
+use Rattle.wcrun.specs.Load.{IsLoaded}
 use Rattle.wcrun.specs.Words.{Command}
 use Rattle.wcrun.specs.declared.command.Mode.{Mode}
 use Rattle.wcrun.specs.declared.command.Mode.TheVariants as mode
@@ -87,11 +89,11 @@ abbrev pub file_in : Option Command → Option (List ℕ)
 file_in None = None
 file_in (Some c) = Some c.file
 
--- What a run is of a script and the chunks of its chunk files: a replay fits them and follows the order, and one with threads is
--- what these made.
+-- What a run is of a script and the chunks of its chunk files: a replay fits them and follows the order, and one with threads fits
+-- them but for what ends of items tell of boxes, and is what these made.
 abbrev pub IsRunBy : Mode → List CoderId → Ready → Run → Type 0
 IsRunBy mode.InOrder coders ready run = FitsInOrder ready.script ready.media coders run
-IsRunBy (mode.Threads workers) coders ready run = IsMade ready.script ready.media coders run
+IsRunBy (mode.Threads workers) coders ready run = FitsByThreads ready.script ready.media coders run
 
 -- A run that is legal, of the script that the file's bytes spell, with the chunks of its chunk files; `coders` has the ids of the
 -- coders that were handed in.
@@ -116,9 +118,15 @@ pub record IsProbe (r : Reading) (text : List ℕ) : Type 0 where
   pub held : OfFile r (λ c files content. content ≡ bytes)
   pub line : IsMediaLine bytes text
 
+-- The text is the summary of the load for which the words ask.
+pub record IsSummary (r : Reading) (coders : List CoderId) (text : List ℕ) : Type 0 where
+  pub load : Load
+  pub asked : verb_in r.command ≡ Some (verb.Load load)
+  pub loaded : IsLoaded load coders text
+
 -- The text is what the command writes.
 abbrev pub IsWhole : Reading → List CoderId → List ℕ → Type 0
-IsWhole r coders text = IsReport r coders text ⊎ IsProbe r text
+IsWhole r coders text = IsReport r coders text ⊎ (IsProbe r text ⊎ IsSummary r coders text)
 
 -- The text is a beginning of what the command writes.
 pub record IsBegun (r : Reading) (coders : List CoderId) (text : List ℕ) : Type 0 where
@@ -173,7 +181,7 @@ abbrev pub IsRefusal : Reading → ℕ → List ℕ → Type 0
 IsRefusal r status text = IsUsage r status text ⊎ TellsFault r status text
 
 -- The four parts. With status 0 the sink's bytes are the earlier ones, followed by what the command writes: the report of a
--- run that is legal and fits the script, or the line of the media file.
+-- run that is legal and fits the script, the line of the media file, or the summary of the load.
 pub record Written (r : Reading) (coders : List CoderId) (w : Writing) : Type 0 where
   pub text : List ℕ
   pub is_whole : IsWhole r coders text

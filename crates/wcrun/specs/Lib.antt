@@ -2,6 +2,7 @@ pub mod Words
 pub mod Refusals
 pub mod Probe
 pub mod Outcome
+pub mod Load
 pub mod Headline
 pub mod Laws
 pub mod Writing

@@ -57,10 +57,11 @@ pub record Ready : Type 0 where
   pub script : ScriptData
   pub media : List (List Chunk)
 
--- what is written in the end: the report of a script's run, or the line of a media file
+-- what is written in the end: the report of a script's run, the line of a media file, or the summary of a load
 pub data Ending : Type 0 where
   Runs : Ready → Ending
   Tells : List ℕ → Ending
+  Loads : Ending
 
 -- what a file comes to, or why it comes to nothing
 abbrev pub Outcome : Type 0
@@ -87,9 +88,11 @@ IsProbed name bytes (Err (stop.Fault (fault.TooMany counted.File))) = most_file 
 IsProbed name bytes (Err (stop.Fault (fault.Chunks n e))) = (n ≡ name) × (length bytes ≤ most_file) × IsMediaFault bytes e
 IsProbed _ _ _ = ⊥
 
+-- a load reads no file
 abbrev pub ComesBy : Verb → List ℕ → (List ℕ → Option (List ℕ)) → List ℕ → Outcome → Type 0
 ComesBy (verb.Run m) name files bytes outcome = Becomes files (playable_of m bytes) outcome
 ComesBy verb.Probe name files bytes outcome = IsProbed name bytes outcome
+ComesBy (verb.Load load) name files bytes outcome = outcome ≡ Ok Loads
 
 -- what the bytes of a command's file come to
 abbrev pub IsOutcome : Command → (List ℕ → Option (List ℕ)) → List ℕ → Outcome → Type 0

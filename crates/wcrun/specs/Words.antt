@@ -1,6 +1,8 @@
 -- The words of a command line (our choice).
 use Rattle.std.specs.Prelude.{ℕ, suc, ◌≤◌, Bool, false, ◌==◌, List, [], ◌∷◌, ◌++◌, codes, bytes_eq, Option, Some, None, option_map, if◌then◌else◌, String, string_bytes, map}
 use Rattle.std.specs.declared.alloc.Global.{Global}
+use Rattle.load_script.specs.Words.{load_of}
+use Rattle.load_script.specs.declared.words.Load.{Load}
 use Rattle.wcrun.specs.declared.command.Mode.{Mode}
 use Rattle.wcrun.specs.declared.command.Mode.TheVariants as mode
 use Rattle.wcrun.specs.declared.command.Verb.{Verb}
@@ -15,7 +17,7 @@ abbrev pub is_dashed : List ℕ → Bool
 is_dashed [] = false
 is_dashed (c ∷ rest) = c == 45
 
--- a command, and the file that it names
+-- a command, and the file that it names; a load names none, and its file is an empty name
 pub record Command : Type 0 where
   pub verb : Verb
   pub file : List ℕ
@@ -51,10 +53,11 @@ abbrev pub numbered : ℕ → List (List ℕ) → List ℕ → Option ℕ
 numbered n [] word = None
 numbered n (w ∷ ws) word = if is_word word w then Some n else numbered (suc n) ws word
 
--- a run with threads has 1 to 16 workers
-abbrev pub HasWorkers : Verb → Type 0
-HasWorkers (verb.Run (mode.Threads n)) = (1 ≤ n) × (n ≤ 16)
-HasWorkers _ = Unit {0}
+-- a run with threads has 1 to 16 workers, and a load 1 to 5,000 chunks for each caller
+abbrev pub IsInRange : Verb → Type 0
+IsInRange (verb.Run (mode.Threads n)) = (1 ≤ n) × (n ≤ 16)
+IsInRange (verb.Load load) = (1 ≤ load.chunks) × (load.chunks ≤ 5000)
+IsInRange _ = Unit {0}
 
 -- the number of workers that a word spells
 unfoldable pub workers_of : List ℕ → Option ℕ
@@ -88,11 +91,22 @@ with_two first second third =
     else if is_word second (codes "--workers") then on_file first (option_map threads (workers_of third))
     else None
 
--- the command, where the words are `replay FILE`, `probe FILE` or `run FILE --workers N`
+-- a load, which names no file
+abbrev pub load_command : Option Load → Option Command
+load_command None = None
+load_command (Some load) = Some (command (verb.Load load) [])
+
+abbrev pub with_three : List ℕ → List ℕ → List ℕ → Option Command
+with_three word first second =
+    if is_word word (codes "run") then with_one first second
+    else if is_word word (codes "load") then load_command (load_of first second)
+    else None
+
+-- the command, where the words are `replay FILE`, `probe FILE`, `run FILE --workers N` or `load START N`
 abbrev pub command_of : List (List ℕ) → Option Command
 command_of [] = None
 command_of (word ∷ []) = None
 command_of (word ∷ file ∷ []) = on_file file (verb_of word)
-command_of (word ∷ first ∷ second ∷ []) = if is_word word (codes "run") then with_one first second else None
+command_of (word ∷ first ∷ second ∷ []) = with_three word first second
 command_of (word ∷ first ∷ second ∷ third ∷ []) = if is_word word (codes "run") then with_two first second third else None
 command_of (word ∷ first ∷ second ∷ third ∷ other ∷ rest) = None

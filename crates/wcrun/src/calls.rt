@@ -4,17 +4,19 @@ ghost use Rattle.run_model.specs.Fits.{IsLegalRun};
 ghost use Rattle.run_model.specs.Missing.{missing_in};
 ghost use Rattle.trace_text.specs.Report.{report_of};
 ghost use Rattle.wc_config.specs.declared.codec.CoderId.{CoderId};
-ghost use Rattle.wcrun.specs.Words.{words_of, command_of, to_probe, to_run, HasWorkers};
+ghost use Rattle.wcrun.specs.Words.{words_of, command_of, to_probe, to_run, IsInRange};
 ghost use Rattle.wcrun.specs.declared.command.Mode.TheVariants as modes;
 ghost use Rattle.wcrun.specs.declared.command.Verb.TheVariants as verb;
 ghost use Rattle.wcrun.specs.Refusals.{status_of, line_of, usage_line, memory_line};
 ghost use Rattle.wcrun.specs.Headline.{reading, writing, IsRunBy, IsRunOf, Headline, Decides, IsComplete};
+ghost use Rattle.wcrun.specs.Load.{EndsLoad};
 ghost use Rattle.wcrun.specs.Stops.{MayStop};
 ghost use Rattle.wcrun.specs.Writing.{WritesText, WritesLine};
 
 use crate::Refusal;
 use crate::command::{Mode, Verb, command_of};
 use crate::laws::files_have_one_outcome;
+use crate::load::run_load;
 use crate::prepare::prepare;
 use crate::prepared::{Prepared, Ran};
 use crate::probe::probe;
@@ -39,7 +41,7 @@ fn run_by<C: Coder, K: Clock + Send + Drop, R: Threads + Wait + Sync>(
     coders: Vec<C>,
     clocks: Vec<K>,
 ) -> Result<Run, NoMemory>
-    requires workers { HasWorkers (verb.Run mode) }
+    requires workers { IsInRange (verb.Run mode) }
     requires clocks { 34 ≤ length clocks.items }
     requires order { mode ≡ modes.InOrder → IsSome prepared.now.script.order }
     requires each { length prepared.now.media.items ≡ length prepared.now.script.chunk_files }
@@ -67,7 +69,7 @@ fn ran<F: Files, C: Coder, K: Clock + Send + Drop, R: Threads + Wait + Sync>(
     coders: Vec<C>,
     clocks: Vec<K>,
 ) -> Result<Ran, Stop<Fault>>
-    requires workers { HasWorkers (verb.Run mode) }
+    requires workers { IsInRange (verb.Run mode) }
     requires clocks { 34 ≤ length clocks.items }
     ensures ok { IfOk result (λ d. IsRunOf mode (reading (to_run mode name.now) (F.content files.old)
         (F.faults files.old) (F.faults files.new)
@@ -152,7 +154,7 @@ fn run_named<F: Files, S: Sink, C: Coder, K: Clock + Send + Drop, R: Threads + W
     coders: Vec<C>,
     clocks: Vec<K>,
 ) -> u8
-    requires workers { HasWorkers (verb.Run mode) }
+    requires workers { IsInRange (verb.Run mode) }
     requires clocks { 34 ≤ length clocks.items }
     ensures headline { Headline
         (reading (to_run mode name.now) (F.content files.old) (F.faults files.old) (F.faults files.new)
@@ -179,9 +181,9 @@ fn run_named<F: Files, S: Sink, C: Coder, K: Clock + Send + Drop, R: Threads + W
     }
 }
 
-// Ends with the line that tells of a media file.
+// Ends with a text.
 #[tactic(auto, using(crate::proofs::Parts::nothing_yet))]
-fn tell<S: Sink>(text: &str, sink: &mut S) -> u8
+pub(crate) fn tell<S: Sink>(text: &str, sink: &mut S) -> u8
     ensures { WritesText text.now
         (writing (S.told sink.old) (S.told sink.new) (S.faults sink.old) (S.faults sink.new) result) }
 {
@@ -222,9 +224,9 @@ fn probe_named<F: Files, S: Sink>(alloc: Global, name: &str, files: &mut F, sink
 ///
 /// `words` are those of the command line, without the program's name. `replay FILE` reads the script in FILE, replays it
 /// with these coders, and writes the report of the run: status 0. `run FILE --workers N` does so with threads, and wants no
-/// order. `probe FILE` reads the media file FILE, and writes the line that tells what it holds: status 0. Any other words are
-/// refused with the line of usage: 2. There are at least 34 clocks, one for each thread that there may be and one for what is
-/// left then.
+/// order. `probe FILE` reads the media file FILE, and writes the line that tells what it holds: status 0. `load START N` runs a
+/// script that it draws with four workers, and writes a summary: status 0. Any other words are refused with the line of usage: 2.
+/// There are at least 34 clocks, one for each thread that there may be and one for what is left then.
 /// A script file that is no JSON or has a fault, a script with no order that is replayed, a media file that is none or lacks a
 /// chunk that is taken, give 3; a file that is not read 4; a count above its limit 7; each with one line that names the place.
 /// Want of memory gives 6 and the line `out of memory`, also after a part of the report. A sink that fails gives 5, with no
@@ -254,12 +256,14 @@ pub fn top<F: Files, S: Sink, C: Coder, K: Clock + Send + Drop, R: Threads + Wai
         (F.bytes_read files.old) (F.bytes_read files.new)
         (F.failed_names files.old) (F.failed_names files.new))
         (writing (S.told sink.old) (S.told sink.new) (S.faults sink.old) (S.faults sink.new) result) }
+    ensures loaded { EndsLoad (command_of (words_of words.now)) result }
 {
     match command_of(words) {
         Some((Verb::Run(mode), name)) => {
             run_named(rt, alloc, mode, name, files, sink, coders, clocks)
         }
         Some((Verb::Probe, name)) => probe_named(alloc, name, files, sink),
+        Some((Verb::Load(load), _)) => run_load(rt, alloc, load, sink, coders, clocks),
         None => usage(sink),
     }
 }

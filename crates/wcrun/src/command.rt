@@ -1,7 +1,10 @@
 // The words of the command line.
 ghost use Rattle.std.specs.Prelude.{◌≡◌, ◌≤◌, IfSome, option_map};
-ghost use Rattle.wcrun.specs.Words.{words_of, is_dashed, command, command_of, HasWorkers};
+ghost use Rattle.wcrun.specs.Words.{words_of, is_dashed, command, command_of, IsInRange};
+ghost use Rattle.load_script.specs.Words.{load_of as load_words};
 ghost use Rattle.wcrun.specs.Words as spec;
+
+use load_script::{Load, load_of};
 
 /// How a script is run.
 #[derive(Clone, Copy, Debug, PartialEq, Eq)]
@@ -12,13 +15,15 @@ pub enum Mode {
     Threads(u32),
 }
 
-/// What is to be done with a file.
+/// What is to be done, mostly with a file.
 #[derive(Clone, Copy, Debug, PartialEq, Eq)]
 pub enum Verb {
     /// The script in it is run.
     Run(Mode),
     /// What it holds as a media file is told.
     Probe,
+    /// A load is run; it names no file.
+    Load(Load),
 }
 
 fn starts_with_dash(word: &str) -> bool
@@ -33,7 +38,7 @@ fn starts_with_dash(word: &str) -> bool
 // What is to be done with a file of which the words say no more.
 fn verb_of(word: &str) -> Option<Verb>
     ensures told { result ≡ spec.verb_of word.now }
-    ensures few { IfSome result HasWorkers }
+    ensures few { IfSome result IsInRange }
 {
     match word {
         "replay" => Some(Verb::Run(Mode::InOrder)),
@@ -106,9 +111,9 @@ fn is_word(word: &str, wanted: &str) -> bool
 
 // A command on a file, unless that word begins with a dash.
 fn on_file(file: &str, verb: Option<Verb>) -> Option<(Verb, &str)>
-    requires { IfSome verb HasWorkers }
+    requires { IfSome verb IsInRange }
     ensures told { option_map (λ c. command c.0 c.1.now) result ≡ spec.on_file file.now verb }
-    ensures few { IfSome result (λ c. HasWorkers c.0) }
+    ensures few { IfSome result (λ c. IsInRange c.0) }
 {
     if starts_with_dash(file) {
         return None;
@@ -122,7 +127,7 @@ fn on_file(file: &str, verb: Option<Verb>) -> Option<(Verb, &str)>
 fn threads(workers: Option<u32>) -> Option<Verb>
     requires { IfSome workers (λ n. (1 ≤ n) × (n ≤ 16)) }
     ensures told { result ≡ option_map spec.threads workers }
-    ensures few { IfSome result HasWorkers }
+    ensures few { IfSome result IsInRange }
 {
     match workers {
         Some(workers) => Some(Verb::Run(Mode::Threads(workers))),
@@ -134,7 +139,7 @@ fn threads(workers: Option<u32>) -> Option<Verb>
 #[tactic(auto, unfolding(crate::specs::Words::with_one))]
 fn with_one<'a>(first: &'a str, second: &'a str) -> Option<(Verb, &'a str)>
     ensures told { option_map (λ c. command c.0 c.1.now) result ≡ spec.with_one first.now second.now }
-    ensures few { IfSome result (λ c. HasWorkers c.0) }
+    ensures few { IfSome result (λ c. IsInRange c.0) }
 {
     if starts_with_dash(first) {
         on_file(second, threads(option_of(first)))
@@ -148,7 +153,7 @@ fn with_one<'a>(first: &'a str, second: &'a str) -> Option<(Verb, &'a str)>
 fn with_two<'a>(first: &'a str, second: &'a str, third: &'a str) -> Option<(Verb, &'a str)>
     ensures told { option_map (λ c. command c.0 c.1.now) result
         ≡ spec.with_two first.now second.now third.now }
-    ensures few { IfSome result (λ c. HasWorkers c.0) }
+    ensures few { IfSome result (λ c. IsInRange c.0) }
 {
     if is_word(first, "--workers") {
         on_file(third, threads(workers_of(second)))
@@ -159,21 +164,43 @@ fn with_two<'a>(first: &'a str, second: &'a str, third: &'a str) -> Option<(Verb
     }
 }
 
-/// The command of `replay FILE`, `probe FILE` or `run FILE --workers N` with its file, where the words are just these. The option
-/// may stand before FILE or after it, as two words or as `--workers=N`; without it there are four workers.
+// A load of these two words.
+fn load_command<'a>(start: &'a str, chunks: &'a str) -> Option<(Verb, &'a str)>
+    ensures told { option_map (λ c. command c.0 c.1.now) result
+        ≡ spec.load_command (load_words start.now chunks.now) }
+    ensures few { IfSome result (λ c. IsInRange c.0) }
+{
+    match load_of(start, chunks) {
+        Some(load) => Some((Verb::Load(load), "")),
+        None => None,
+    }
+}
+
+// A command of three words.
+fn with_three<'a>(word: &'a str, first: &'a str, second: &'a str) -> Option<(Verb, &'a str)>
+    ensures told { option_map (λ c. command c.0 c.1.now) result
+        ≡ spec.with_three word.now first.now second.now }
+    ensures few { IfSome result (λ c. IsInRange c.0) }
+{
+    if is_word(word, "run") {
+        with_one(first, second)
+    } else if is_word(word, "load") {
+        load_command(first, second)
+    } else {
+        None
+    }
+}
+
+/// The command of `replay FILE`, `probe FILE`, `run FILE --workers N` or `load START N` with its file, where the words are just
+/// these. The option may stand before FILE or after it, as two words or as `--workers=N`; without it there are four workers. A
+/// load names no file: its file is an empty name.
 pub fn command_of(words: &[String]) -> Option<(Verb, &str)>
     ensures told { option_map (λ c. command c.0 c.1.now) result ≡ command_of (words_of words.now) }
-    ensures few { IfSome result (λ c. HasWorkers c.0) }
+    ensures few { IfSome result (λ c. IsInRange c.0) }
 {
     match words {
         [word, file] => on_file(file.as_str(), verb_of(word.as_str())),
-        [word, first, second] => {
-            if is_word(word.as_str(), "run") {
-                with_one(first.as_str(), second.as_str())
-            } else {
-                None
-            }
-        }
+        [word, first, second] => with_three(word.as_str(), first.as_str(), second.as_str()),
         [word, first, second, third] => {
             if is_word(word.as_str(), "run") {
                 with_two(first.as_str(), second.as_str(), third.as_str())

@@ -12,6 +12,8 @@ Replays calls on W3C WebCodecs codecs, step by step, and writes a report of all 
   wcrun run FILE --workers N
                        runs it with threads: one for each caller, for events, and for each of N workers, 1 to 16
                        (4 where the option is left out); an order is not followed
+  wcrun load START N   runs a script that is drawn from the number START, with N chunks (1 to 5,000) for each of four
+                       decoders and with four workers, and tells how many outputs and bytes came, and their sum
   wcrun probe FILE     tells what a WAV file, a native FLAC file or a chunk file holds, in one line
 
 A FILE that begins with - is written ./-NAME.

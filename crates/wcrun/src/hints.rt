@@ -67,6 +67,7 @@ fn fault_of<F: Files>(alloc: Global, files: &mut F, verb: Verb, name: &str) -> O
             Err(Stop::Fault(fault)) => Some(fault),
             _ => None,
         },
+        Verb::Load(_) => None,
     }
 }
 
@@ -86,12 +87,12 @@ fn tell_fault<R: rt::Files + Eprint>(rt: &R, alloc: Global, verb: Verb, name: &s
         Verb::Run(_) => files
             .read_all(alloc, name, MOST_SCRIPT)
             .unwrap_or(Vec::new(alloc)),
-        Verb::Probe => Vec::new(alloc),
+        Verb::Probe | Verb::Load(_) => Vec::new(alloc),
     };
     if let Ok(lines) = fault_hints(alloc, name, &text, &fault, held) {
         write(rt, &lines);
     }
-    verb != Verb::Probe && fault != Fault::NotJson
+    matches!(verb, Verb::Run(_)) && fault != Fault::NotJson
 }
 
 fn warn<R: rt::Files + Eprint>(rt: &R, alloc: Global, name: &str) {
@@ -118,7 +119,7 @@ pub fn tell<R: rt::Files + Eprint>(rt: &R, alloc: Global, words: &[String], stat
     };
     let warns = match status {
         3 | 4 | 7 => tell_fault(rt, alloc, verb, name),
-        _ => status == 0 && verb != Verb::Probe,
+        _ => status == 0 && matches!(verb, Verb::Run(_)),
     };
     if warns {
         warn(rt, alloc, name);

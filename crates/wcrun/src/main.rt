@@ -1,5 +1,5 @@
 //! Runs a script of calls on codecs, in its order or with threads, and writes the report of the run; or tells what a media file
-//! holds.
+//! holds; or runs a load.
 #![tactic(auto)]
 
 mod calls;
@@ -21,6 +21,9 @@ mod ground_rows;
 mod help;
 mod hints;
 mod laws;
+mod load;
+#[cfg(test)]
+mod load_rows;
 #[cfg(test)]
 mod media_rows;
 mod prepare;

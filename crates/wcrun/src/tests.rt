@@ -153,6 +153,18 @@ pub(crate) fn call_on(
     reads: Vec<u64>,
     writes: Vec<u64>,
 ) -> Result<(u8, MemSink), Fail> {
+    call_without(rt, entries, words, reads, writes, Some(CodecId::Alaw))
+}
+
+// The same with coders of each codec but this one, so that a configure for it is refused.
+pub(crate) fn call_without(
+    rt: &(impl Threads + Wait + Sync + Alloc<A = Global>),
+    entries: Vec<(String, Vec<u8>)>,
+    words: &[&str],
+    reads: Vec<u64>,
+    writes: Vec<u64>,
+    lacked: Option<CodecId>,
+) -> Result<(u8, MemSink), Fail> {
     let alloc = rt.alloc();
     let mut given = Vec::new(alloc);
     for word in words {
@@ -163,8 +175,7 @@ pub(crate) fn call_on(
     let mut coders = Vec::new(alloc);
     for role in [Role::Decode, Role::Encode] {
         for codec in all_codecs() {
-            // One coder has no box, so that its configure is refused.
-            if matches!(codec, CodecId::Alaw) {
+            if lacked == Some(*codec) {
                 continue;
             }
             let coder = coder_box!(alloc, role, kind_of(role, *codec), Err(NoMemory)?);

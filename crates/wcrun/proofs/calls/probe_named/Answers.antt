@@ -1,4 +1,4 @@
-use Rattle.std.proofs.Common.{◌≡◌, inr, ℕ, List, sym, subst}
+use Rattle.std.proofs.Common.{◌≡◌, inl, inr, ℕ, List, sym, subst}
 use Rattle.std.specs.Prelude.{string_bytes}
 use Rattle.chunk_files.specs.declared.fault.Stop.{Stop}
 use Rattle.wcrun.specs.{Outcome.Tells, Words.to_probe}
@@ -11,7 +11,7 @@ use Rattle.wcrun.proofs.calls.probe_named.Goals as goal
 pub returns-in-Ok-clause-headline : goal.returns-in-Ok-clause-headline
 returns-in-Ok-clause-headline g c ids =
     headline_of_whole _ ids _ c.as_str.result.now
-    (inr (subst (λ (t : List ℕ). IsProbe (reading (to_probe c.args.name.now) (g.F.Files.content c.args.files.now) (g.F.Files.faults c.args.files.now) (g.F.Files.faults c.probe.new.files) (g.F.Files.bytes_read c.args.files.now) (g.F.Files.bytes_read c.probe.new.files) (g.F.Files.failed_names c.args.files.now) (g.F.Files.failed_names c.probe.new.files)) t) (sym c.as_str.ensures.value) c.in-Ok.ensures.line)) c.tell.ensures
+    (inr (inl (subst (λ (t : List ℕ). IsProbe (reading (to_probe c.args.name.now) (g.F.Files.content c.args.files.now) (g.F.Files.faults c.args.files.now) (g.F.Files.faults c.probe.new.files) (g.F.Files.bytes_read c.args.files.now) (g.F.Files.bytes_read c.probe.new.files) (g.F.Files.failed_names c.args.files.now) (g.F.Files.failed_names c.probe.new.files)) t) (sym c.as_str.ensures.value) c.in-Ok.ensures.line))) c.tell.ensures
 
 pub returns-in-Ok-clause-decided : goal.returns-in-Ok-clause-decided
 returns-in-Ok-clause-decided g c =
