@@ -4,6 +4,7 @@ ghost use Rattle.std.specs.Fmt.{signed_decimal};
 ghost use Rattle.hex.specs.Hex.{encode_lower};
 ghost use Rattle.report_text.specs.Text as spec;
 
+use hex::encode_to_slice;
 use itoa::Buffer;
 use std::alloc::AllocError;
 
@@ -43,18 +44,22 @@ pub(crate) fn push_number_or_dash(line: &mut Vec<u8>, number: Option<u64>) -> Re
     }
 }
 
-const DIGITS: [u8; 16] = *b"0123456789abcdef";
-
 // The bytes in lower case hex.
-#[tactic(auto, using(crate::proofs::Hex::hex_end))]
 fn push_hex(line: &mut Vec<u8>, bytes: &[u8]) -> Result<(), AllocError>
     ensures { OnOk result (line.new.items ≡ line.old.items ++ encode_lower bytes.now) }
 {
-    for byte in bytes {
-        line.push(DIGITS[(*byte / 16) as usize])?;
-        line.push(DIGITS[(*byte % 16) as usize])?;
+    let old = line.len();
+    let Some(digits) = bytes.len().checked_mul(2) else {
+        return Err(AllocError);
+    };
+    let Some(all) = old.checked_add(digits) else {
+        return Err(AllocError);
+    };
+    line.resize(all, 0)?;
+    match encode_to_slice(bytes, &mut line.as_mut_slice()[old..]) {
+        Ok(()) => Ok(()),
+        Err(_) => unreachable!(),
     }
-    Ok(())
 }
 
 // The bytes in lower case hex, or `-` where there are none.
