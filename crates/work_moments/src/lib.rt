@@ -1,0 +1,8 @@
+//! What the work of items asks of outside: the moment now, and whether a job may go on.
+#![tactic(auto)]
+
+mod clock;
+mod gate;
+
+pub use clock::{Clock, StillClock};
+pub use gate::{Gate, OpenGate, Watch};
