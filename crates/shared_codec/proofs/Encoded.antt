@@ -1,5 +1,5 @@
 -- What the locked value stands for after an encode.
-use Rattle.std.proofs.Common.{ℕ, ◌≡◌, ◌<◌, true, List, [], ◌∷◌, ◌++◌, length, map, Bool, Option, Some, ap, sym, subst, ◌∙◌, inr, append-nil}
+use Rattle.std.proofs.Common.{ℕ, ◌≡◌, ◌<◌, true, List, [], ◌∷◌, ◌++◌, length, map, Bool, Option, Some, ap, sym, subst, ◌∙◌, inr, append-nil, refl}
 use Rattle.std.specs.Prelude.{Result, Ok, Err, OnOk, OnErr}
 use Rattle.std.specs.Result.{is_ok}
 use Rattle.atomic_table.specs.Seated.{TableId}
@@ -81,12 +81,14 @@ module _ {S : Type 0} (s : Shared) where
       record {
         entries = [];
         calls = clones_at r.place (adds_held e);
-        owes = made_owes s e [] [] (clones_at r.place (adds_held e)) a c m none clones;
+        ends = [];
+        owes = made_owes s e [] [] (clones_at r.place (adds_held e)) [] a c m none clones refl;
         made = made_none u;
         own = tt;
         does = done.0;
         pool = done.1;
         are = done.2;
+        told = tt;
       }
     where
       made : (given : Handed) → Hands s.codec r.place lends given v w → (es : List PoolEntry) × MadeSince v w es × DoFor s.codec (clones_at r.place (adds_held (Entry.Call who (Call.Encode given)))) es
@@ -98,6 +100,6 @@ module _ {S : Type 0} (s : Shared) where
   encode_settles who lends (Ok r) a c v w told = encoded_settles who lends r told.given a c v w told.replied told.hands
   encode_settles who lends (Err e) a c v w told = tt
 
-  pub wanted_owes : (who : Who) (lends : HeldMedium → MediaRef → Type 0) (result : Result ReplyValue NoMemory) (a c : Seat (Option S) (View Event)) (v w : View PoolEntry) → EncodeTells s who lends result a c v w → OnErr result (Owes s [] [] a.me.0 c.me.0)
+  pub wanted_owes : (who : Who) (lends : HeldMedium → MediaRef → Type 0) (result : Result ReplyValue NoMemory) (a c : Seat (Option S) (View Event)) (v w : View PoolEntry) → EncodeTells s who lends result a c v w → OnErr result (Owes s [] [] [] a.me.0 c.me.0)
   wanted_owes who lends (Ok r) a c v w told = tt
   wanted_owes who lends (Err e) a c v w told = look_owes s a c told.looked

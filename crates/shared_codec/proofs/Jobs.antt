@@ -24,7 +24,7 @@ use Rattle.codec_logs.specs.declared.event.Event.{Event}
 use Rattle.codec_model.specs.declared.entry.Running.{Running}
 use Rattle.codec_accounts.specs.Codec.{is_old}
 use Rattle.codec_accounts.specs.Boxes as boxes
-use Rattle.codec_accounts.specs.Boxes.{Act, act_of, start_act, lets_go_by, newer}
+use Rattle.codec_accounts.specs.Boxes.{act_of, start_act, lets_go_by, newer}
 use Rattle.codec_logs.specs.Logs.{entry_of, history_of, acquires_of, box_of, Track, track, act_in, BoxIs}
 use Rattle.codec_logs.specs.LogLaws.{legal_log}
 use Rattle.shared_codec.specs.Dues.{give_by, slot_dues, media_dues, clones_at, ends_at, given_if, gives_of}

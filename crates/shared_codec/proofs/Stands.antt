@@ -1,5 +1,5 @@
 -- What the locked value stands for after one passage more.
-use Rattle.std.proofs.Common.{ℕ, ◌≡◌, ◌+◌, ◌≤◌, arith, Bool, true, false, eqb, not, cond, List, [], ◌∷◌, ◌++◌, length, Option, Some, None, is_some, refl, ap, sym, subst, ◌∙◌}
+use Rattle.std.proofs.Common.{ℕ, ◌≡◌, ◌+◌, ◌≤◌, arith, Bool, true, false, eqb, not, ◌&&◌, cond, List, [], ◌∷◌, ◌++◌, length, Option, Some, None, is_some, refl, ap, sym, subst, ◌∙◌}
 use Rattle.std.specs.Prelude.{unwrap_or, option_map}
 use Rattle.std.proofs.lemmas.List.Sums.{sum_by_push}
 use Rattle.atomic_table.specs.Seated.{TableId}
@@ -12,14 +12,16 @@ use Rattle.wc_base.specs.declared.seat.Passage.TheVariants.{Made, Look}
 use Rattle.wc_base.specs.declared.seat.View.{View}
 use Rattle.wc_pool.specs.declared.reference.MediaRef.{MediaRef}
 use Rattle.wc_config.specs.declared.codec.CoderId.{CoderId}
+use Rattle.wc_config.specs.Configs.{coder_id_of, is_supported}
 use Rattle.coder_api.specs.{Lent.Lent, Meaning.Stopped, declared.slot.SlotEntry.SlotEntry}
 use Rattle.codec_model.specs.declared.entry.{Opening.Opening, Entry.Entry, Item.Item, Work.Work, Running.Running}
 use Rattle.codec_model.specs.{Control.start_item, Held.in_order}
-use Rattle.codec_model.specs.Replay.{State, Given, step, missing_coder}
+use Rattle.codec_model.specs.Replay.{State, Given, step, missing_coder, given_more}
 use Rattle.codec_accounts.specs.Boxes.{Act, Asks, Begins, Ends, Holds, holds_by, holds_after_end, newer, MayCome, start_act, lacking, act_of, after, lets}
 use Rattle.codec_accounts.specs.{Registry.Box, Codec.is_old, ActLaws.act_makes, ActLaws.ActMakes}
 use Rattle.codec_core.specs.declared.out.Out.{Out}
-use Rattle.codec_core.specs.Job.{JobValue, DoneValue, IsJobOf, IsEndOf, missing_id, outcome_of, stopped_box, named_box, IsEnd}
+use Rattle.codec_core.specs.Job.{JobValue, DoneValue, IsJobOf, IsEndOf, missing_id, missing_for, outcome_of, stopped_box, named_box, IsEnd}
+use Rattle.codec_core.specs.Job as job
 use Rattle.codec_core.specs.Codec.{Codec, state_at, Makes, item_parts, kept_box, handed_back, went_out, IsAskedAt, IsBy, IsBack}
 use Rattle.codec_core.specs.Owning.{GoesBack}
 use Rattle.codec_media.specs.Holding.{Holding, all_of}
@@ -73,6 +75,17 @@ after_is e s t is = ap (λ (o : Option State). unwrap_or o s) is
 
 pub same_places : (old new : Codec) (e : Entry) → new.spare ≡ old.spare → Leaves old new e
 same_places old new e is = omega (arith, is)
+
+wanted_is : (b : Bool) (wanted : Option CoderId) (id : CoderId) → cond b wanted None ≡ Some id → wanted ≡ Some id
+wanted_is true wanted id h = h
+wanted_is false wanted id h = absurd cc
+
+-- a job lacks a box of the coder that the config asks for which it brings
+lacking_asks : (w : Work) (coder : Option Lent) (id : CoderId) (before g : Given) → missing_for w coder ≡ Some id → given_more w before ≡ g → coder_id_of g.config ≡ Some id
+lacking_asks (Work.Configure config) coder id before g lacks more =
+    ap (λ (x : Given). coder_id_of x.config) (sym more) ∙ wanted_is (is_supported config && not (job.holds coder config)) (coder_id_of config) id lacks
+lacking_asks (Work.Coded input) coder id before g lacks more = absurd cc
+lacking_asks Work.Flush coder id before g lacks more = absurd cc
 
 module _ (k : ℕ) (o : Opening) (calls : ℕ) (pool slots : TableId) where
   abbrev St : Holding → Log Event → Type 0
@@ -298,6 +311,8 @@ module _ (k : ℕ) (o : Opening) (calls : ℕ) (pool slots : TableId) where
         runs = ap (λ (h : Holds Box). h.runs) holds ∙ busy_by (missing_id job);
         job_is = subst (λ (t : State). IsJobOf t job) next.state is;
         has = λ lacks. subst (λ (h : Holds Box). BoxIs k h.since h.box job.coder) (sym holds) (has_by (missing_id job) lacks home);
+        asked = ap (λ (h : Holds Box). cond h.waits (coder_id_of (track o (log ++ (n, Made ev) ∷ [])).state.running_given.config) None) holds
+            ∙ asked_by (missing_id job) (coder_id_of (track o (log ++ (n, Made ev) ∷ [])).state.running_given.config) (λ id lacks. lacking_asks job.work job.coder id is.given.before (track o (log ++ (n, Made ev) ∷ [])).state.running_given lacks (is.given.more ∙ ap (λ (t : State). t.running_given) next.state));
         asks = λ some. subst (λ (h : Holds Box). (h.waits ≡ true) × (h.since ≡ Some job.place) × (h.box ≡ None)) (sym holds) (asks_by (missing_id job) some at);
         out = subst (λ (z : Option Lent). IfOut slots z) (sym coder) st.out;
       }
@@ -305,6 +320,10 @@ module _ (k : ℕ) (o : Opening) (calls : ℕ) (pool slots : TableId) where
       runs_by : (m : Option CoderId) → runner_by (start_act m) n (track o log).runner ≡ Some n
       runs_by None = refl
       runs_by (Some id) = refl
+
+      asked_by : (m : Option CoderId) (wanted : Option CoderId) → ((id : CoderId) → m ≡ Some id → wanted ≡ Some id) → cond (holds_by (start_act m) None (track o log).holds).waits wanted None ≡ m
+      asked_by None wanted f = refl
+      asked_by (Some id) wanted f = f id refl
 
       busy_by : (m : Option CoderId) → (holds_by (start_act m) None (track o log).holds).runs ≡ true
       busy_by None = refl

@@ -1,5 +1,6 @@
 -- Laws of what a seat's entries call for.
 use Rattle.std.proofs.Common.{ℕ, ◌≡◌, Bool, true, false, cond, eqb, List, [], ◌∷◌, ◌++◌, Option, refl, ap, sym, subst, ◌∙◌, append-nil, append_assoc, eq-eqb, ne_eqb, ⊎_elim}
+use Rattle.std.proofs.lemmas.List.{append_cancel_left}
 use Rattle.atomic_table.specs.declared.shared.Seat.{Seat}
 use Rattle.wc_base.specs.Views.{Log}
 use Rattle.wc_base.specs.declared.seat.Passage.{Passage}
@@ -54,6 +55,12 @@ module _ {D : Type 0} (due : ℕ → Event → Track → List D) where
         longer = b.longer ∙ (ap (λ (l : Log Event). l ++ b.more) a.longer ∙ append_assoc u.log a.more b.more);
         owed = due_append k u.numbers x a.more b.more ∙ (λ i. a.owed i ++ second i);
       }
+
+  -- it calls for nothing else
+  pub owed_once : (k : ℕ) (o : Opening) (v w : View Event) (es fs : List D) → OwedSince due k o v w es → OwedSince due k o v w fs → es ≡ fs
+  owed_once k o v w es fs a b =
+      let same : a.more ≡ b.more = append_cancel_left v.log a.more b.more (sym a.longer ∙ b.longer) in
+      sym a.owed ∙ (ap (dues_by due k v.numbers (track o v.log)) same ∙ b.owed)
 
   module _ {S : Type 0} where
     -- one passage

@@ -17,5 +17,8 @@ pub mod Lends
 pub mod Looks
 pub mod Takes
 pub mod Workers
+pub mod Told
 pub mod Order
 pub mod OrderLaws
+pub mod ToldLaws
+pub mod WorkLaws

@@ -21,7 +21,6 @@ use Rattle.codec_logs.specs.Logs.{Track, entry_of, history_of, track, track_made
 use Rattle.codec_logs.specs.LogLaws.{track_append, follows_more, legal_log}
 use Rattle.seat_lock.specs.Logs.{entries_of}
 use Rattle.seat_lock.specs.Own.{entries_of-append}
-use Rattle.shared_slots.specs.Boxes.{Registry}
 use Rattle.shared_codec.specs.declared.settling.Answer.{Answer}
 use Rattle.shared_codec.specs.Shared.{Shared, MadeIn, LookedIn, NoneIn, no_mint, no_spend}
 use Rattle.shared_codec.specs.Calls.{GaveIn, CallTells, TurnTells, ReclaimTells}
@@ -34,7 +33,7 @@ use Rattle.shared_codec.specs.Names.{Names, called, calls_in, replied_calls, ans
 use Rattle.shared_codec.specs.Sums.{all_dues}
 use Rattle.shared_codec.specs.Settled.{AnswerTells, TurnOnceTells, ReclaimOnceTells}
 use Rattle.shared_codec.specs.Takes.{TakeTells}
-use Rattle.shared_codec.specs.Workers.{WorkTells}
+use Rattle.shared_codec.specs.Workers.{BeginsIn, FinishTells, WorkTells}
 
 pub names_none : (s : Shared) (v : View Event) → Names s [] v v
 names_none s v = owed_none call_dues s.codec s.opening v
@@ -134,7 +133,13 @@ module _ {S : Type 0} (s : Shared) where
   pub done_names : (d : DoneValue) (acquires : List SlotEntry) (moment : ℕ) (back : EndedValue) (a b : Seat (Option S) (View Event)) → DoneIn s d acquires moment back a b → Names s [] a.me.0 b.me.0
   done_names d acquires moment back a b told = made_names _ acquires a b told.made
 
-  pub work_names : (r : Registry) (moment : ℕ) (result : Option ℕ) (a b : Seat (Option S) (View Event)) (c : View SlotEntry) → WorkTells s r moment result a b c → Names s [] a.me.0 b.me.0
-  work_names r moment (Some place) a b c told =
-      names_then s a.me.0 told.middle.me.0 b.me.0 [] [] (start_names (Some told.job) a told.middle told.started) (done_names told.done told.acquires moment told.back told.middle b told.finished)
-  work_names r moment None a b c told = looked_names a b told.looked
+  pub begin_names : (job : JobValue) (a b : Seat (Option S) (View Event)) → BeginsIn s job a b → Names s [] a.me.0 b.me.0
+  begin_names job a b told = start_names (Some told.came) a b told.started
+
+  pub finish_names : (d : DoneValue) (acquires : List SlotEntry) (moment place : ℕ) (a b : Seat (Option S) (View Event)) → FinishTells s d acquires moment place a b → Names s [] a.me.0 b.me.0
+  finish_names d acquires moment place a b told = done_names d acquires moment told.0 a b told.2
+
+  pub work_names : (result : Option ℕ) (old now : Option (List ℕ)) (a b : Seat (Option S) (View Event)) → WorkTells s result old now a b → Names s [] a.me.0 b.me.0
+  work_names (Some place) old now a b told =
+      names_then s a.me.0 told.middle.me.0 b.me.0 [] [] (begin_names told.job a told.middle told.begins) (finish_names told.done told.acquires told.moment place told.middle b told.finish)
+  work_names None old now a b told = looked_names a b told.0.looked

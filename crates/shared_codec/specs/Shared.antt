@@ -26,6 +26,7 @@ use Rattle.codec_logs.specs.declared.event.Acquires.{Acquires}
 use Rattle.codec_logs.specs.Logs.{entry_of, history_of, acquires_of, box_of, track, IsLog, AreAsked, AreTries, BoxIs, HomeIs}
 use Rattle.shared_pool.specs.Refs.{AreOf}
 use Rattle.shared_slots.specs.Boxes.{IfOut}
+use Rattle.shared_codec.specs.Told.{asked_in}
 
 -- a shared codec: its lock, its number and opening, for how many calls it was opened, and the locks of its pool and of its registry
 pub record Shared : Type 0 where
@@ -101,12 +102,13 @@ pub record MayEndAt (k : ℕ) (o : Opening) (slots : TableId) (n : ℕ) (log : L
   pub out : IfOut slots d.coder
 
 -- The item at work is of the seat with number n, and this is its job. Where the job lacks no box, its box is that of the
--- accounts; else its start asks for one.
+-- accounts; else its start asks for one, of the coder that the job lacks.
 pub record HasJobAt (k : ℕ) (o : Opening) (slots : TableId) (n : ℕ) (log : Log Event) (job : JobValue) : Type 0 where
   pub runner : (track o log).runner ≡ Some n
   pub runs : (track o log).holds.runs ≡ true
   pub job_is : IsJobOf (track o log).state job
   pub has : missing_id job ≡ None → BoxIs k (track o log).holds.since (track o log).holds.box job.coder
+  pub asked : asked_in (track o log) ≡ missing_id job
   pub asks : is_some (missing_id job) ≡ true → ((track o log).holds.waits ≡ true) × ((track o log).holds.since ≡ Some job.place) × ((track o log).holds.box ≡ None)
   pub out : IfOut slots job.coder
 

@@ -14,7 +14,7 @@ use Rattle.shared_codec.specs.Dues.{dues_in, dues_by, OwedSince}
 use Rattle.shared_codec.specs.Sums.{AreJoined, dues_of, all_dues, DuesAddUp}
 use Rattle.shared_codec.specs.DueLaws.{not_in, has_in, none_due, due_append}
 
-in_both : (n : ℕ) (a b : List ℕ) → is_in n a ≡ true → is_in n (a ++ b) ≡ true
+pub in_both : (n : ℕ) (a b : List ℕ) → is_in n a ≡ true → is_in n (a ++ b) ≡ true
 in_both n [] b h = absurd cc
 in_both n (m ∷ ms) b h = by (in_both n ms b) (eqb n m) h
   where
@@ -22,7 +22,7 @@ in_both n (m ∷ ms) b h = by (in_both n ms b) (eqb n m) h
     by rest true is = refl
     by rest false is = rest is
 
-in_other : (n : ℕ) (a b : List ℕ) → is_in n a ≡ false → is_in n (a ++ b) ≡ is_in n b
+pub in_other : (n : ℕ) (a b : List ℕ) → is_in n a ≡ false → is_in n (a ++ b) ≡ is_in n b
 in_other n [] b h = refl
 in_other n (m ∷ ms) b h = by (in_other n ms b) (eqb n m) h
   where
@@ -62,7 +62,7 @@ module _ {D : Type 0} (due : ℕ → Event → Track → List D) where
       (is_in p.0 one) (is_in p.0 other) (is_in p.0 (one ++ other)) (not_both p.0 one other apart) (in_both p.0 one other) (in_other p.0 one other) (both_due k one other (track_by p.0 p.1 x) ps apart t)
 
   -- passages of others call for nothing of a seat's
-  goes_on_due : (k : ℕ) (numbers : List ℕ) (x : Track) (a b : Log Event) → Continues numbers a b → dues_by due k numbers x b ≡ dues_by due k numbers x a
+  pub goes_on_due : (k : ℕ) (numbers : List ℕ) (x : Track) (a b : Log Event) → Continues numbers a b → dues_by due k numbers x b ≡ dues_by due k numbers x a
   goes_on_due k numbers x a b goes =
       ap (λ (l : Log Event). dues_by due k numbers x l) goes.is
       ∙ (due_append due k numbers x a goes.more

@@ -108,7 +108,7 @@ impl<C: Coder> SharedCodec<C> {
         ensures done { let acquired = acquires_of acquires in
             DoneIn self.now d acquired moment result seat.old seat.new }
         ensures owes { let acquired = acquires_of acquires in
-            DoneOwes self.now acquired result seat.old.me.0 seat.new.me.0 }
+            DoneOwes self.now d acquired result seat.old.me.0 seat.new.me.0 }
     {
         let mut held = self.lock.enter(rt, seat);
         let back = held.state().core.done(d, moment);

@@ -107,6 +107,13 @@ impl<C: Coder> SharedCodec<C> {
         Ok((SharedCodec { lock, codec }, seat))
     }
 
+    /// Its number.
+    pub fn number(&self) -> u32
+        ensures { result ≡ self.now.codec }
+    {
+        self.codec
+    }
+
     /// One part of a seat goes to a new seat, which has seen what it has and has made nothing. It takes no memory.
     pub fn split(&self, seat: &mut CodecSeat<C>) -> CodecSeat<C>
         requires seat { IsIdleAt self.now.id seat.old }

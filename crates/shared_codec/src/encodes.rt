@@ -106,7 +106,7 @@ impl<C: Coder> SharedCodec<C> {
             pool_seat.old.me.0 pool_seat.new.me.0 }
         ensures settles { OnOk result (SettlesInPool self.now seat.old.me.0 seat.new.me.0
             pool_seat.old.me.0 pool_seat.new.me.0) }
-        ensures err { OnErr result (Owes self.now [] [] seat.old.me.0 seat.new.me.0) }
+        ensures err { OnErr result (Owes self.now [] [] [] seat.old.me.0 seat.new.me.0) }
     {
         let mut held = self.lock.enter(rt, seat);
         let reply = encode_in(

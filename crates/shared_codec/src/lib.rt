@@ -16,5 +16,7 @@ mod workers;
 pub use codec::{About, CodecSeat, Locked, SharedCodec};
 pub use laws::{dues_add_up, order_is_kept};
 pub use lender::{Lender, OpenMedium};
+pub use passage::no_acquires;
 pub use settling::Answer;
 pub use takes::NextOutput;
+pub use workers::{Acquired, Lack, Tried, one_acquire, two_acquires};

@@ -31,7 +31,7 @@ impl<C: Coder> SharedCodec<C> {
         requires { IsIdleAt self.now.id seat.old }
         ensures kept { Keeps self.now.id seat.old seat.new }
         ensures look { LookTells self.now result seat.old seat.new }
-        ensures owes { Owes self.now [] [] seat.old.me.0 seat.new.me.0 }
+        ensures owes { Owes self.now [] [] [] seat.old.me.0 seat.new.me.0 }
     {
         let mut held = self.lock.enter(rt, seat);
         let seen = held.state().core.core().look();
@@ -49,7 +49,7 @@ impl<C: Coder> SharedCodec<C> {
         requires { IsIdleAt self.now.id seat.old }
         ensures kept { Keeps self.now.id seat.old seat.new }
         ensures tells { PromiseTells self.now promise result seat.old seat.new }
-        ensures owes { Owes self.now [] [] seat.old.me.0 seat.new.me.0 }
+        ensures owes { Owes self.now [] [] [] seat.old.me.0 seat.new.me.0 }
     {
         let mut held = self.lock.enter(rt, seat);
         let seen = promise_in(held.state().core.core(), promise);
@@ -62,7 +62,7 @@ impl<C: Coder> SharedCodec<C> {
         requires { IsIdleAt self.now.id seat.old }
         ensures kept { Keeps self.now.id seat.old seat.new }
         ensures end { EndTells self.now promise result seat.old seat.new }
-        ensures owes { Owes self.now [] [] seat.old.me.0 seat.new.me.0 }
+        ensures owes { Owes self.now [] [] [] seat.old.me.0 seat.new.me.0 }
     {
         let (_, end) = self.look_at_promise(rt, seat, promise);
         end
@@ -73,7 +73,7 @@ impl<C: Coder> SharedCodec<C> {
         requires { IsIdleAt self.now.id seat.old }
         ensures kept { Keeps self.now.id seat.old seat.new }
         ensures progress { ProgressTells self.now result seat.old seat.new }
-        ensures owes { Owes self.now [] [] seat.old.me.0 seat.new.me.0 }
+        ensures owes { Owes self.now [] [] [] seat.old.me.0 seat.new.me.0 }
     {
         let mut held = self.lock.enter(rt, seat);
         let moment = held.state().core.core().progress();
@@ -86,7 +86,7 @@ impl<C: Coder> SharedCodec<C> {
         requires { IsIdleAt self.now.id seat.old }
         ensures kept { Keeps self.now.id seat.old seat.new }
         ensures tells { GroundTells self.now result seat.old seat.new }
-        ensures owes { Owes self.now [] [] seat.old.me.0 seat.new.me.0 }
+        ensures owes { Owes self.now [] [] [] seat.old.me.0 seat.new.me.0 }
     {
         let mut held = self.lock.enter(rt, seat);
         let at = held.state().core.core().ground();
@@ -100,7 +100,7 @@ impl<C: Coder> SharedCodec<C> {
         requires { IsIdleAt self.now.id seat.old }
         ensures kept { Keeps self.now.id seat.old seat.new }
         ensures tells { HoldingTells self.now result seat.old seat.new }
-        ensures owes { Owes self.now [] [] seat.old.me.0 seat.new.me.0 }
+        ensures owes { Owes self.now [] [] [] seat.old.me.0 seat.new.me.0 }
     {
         let mut held = self.lock.enter(rt, seat);
         let seen = held.state().core.core().holding();

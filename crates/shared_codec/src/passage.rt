@@ -10,8 +10,8 @@ use coder_api::Coder;
 use seat_lock::Passage;
 use std::snapshot::Snapshot;
 
-// No acquires.
-pub(crate) fn no_acquires() -> Acquires
+/// No acquires.
+pub fn no_acquires() -> Acquires
     ensures { result ≡ record { first = None; second = None } }
 {
     Acquires {

@@ -95,7 +95,7 @@ impl<C: Coder> SharedCodec<C> {
         requires { IsIdleAt self.now.id seat.old }
         ensures kept { Keeps self.now.id seat.old seat.new }
         ensures tells { OutputTells self.now result seat.old seat.new }
-        ensures owes { Owes self.now [] [] seat.old.me.0 seat.new.me.0 }
+        ensures owes { Owes self.now [] [] [] seat.old.me.0 seat.new.me.0 }
     {
         let mut held = self.lock.enter(rt, seat);
         let seen = output_in(held.state().core.core());
@@ -113,7 +113,7 @@ impl<C: Coder> SharedCodec<C> {
         requires { IsIdleAt self.now.id seat.old }
         ensures kept { Keeps self.now.id seat.old seat.new }
         ensures next { NextTells self.now result seat.old seat.new }
-        ensures owes { Owes self.now [] [] seat.old.me.0 seat.new.me.0 }
+        ensures owes { Owes self.now [] [] [] seat.old.me.0 seat.new.me.0 }
     {
         match self.look_for_output(rt, seat) {
             Ok((_, next)) => Ok(next),
@@ -134,7 +134,7 @@ impl<C: Coder> SharedCodec<C> {
         requires { IsIdleAt self.now.id seat.old }
         ensures kept { Keeps self.now.id seat.old seat.new }
         ensures taken { TakeTells self.now who number result seat.old seat.new }
-        ensures owes { Owes self.now [] [] seat.old.me.0 seat.new.me.0 }
+        ensures owes { Owes self.now [] [] [] seat.old.me.0 seat.new.me.0 }
     {
         let mut held = self.lock.enter(rt, seat);
         let place = take_in(&mut held.state().core, who, number);

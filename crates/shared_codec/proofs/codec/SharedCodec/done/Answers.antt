@@ -56,4 +56,4 @@ returns-clause-kept g c =
     keeps_passage c.args.self.now.id (passage_of c.passage_if-passage.result) c.args.seat.now c.leave.new.seat passes c.requires.seat (c.leave.ensures.same.0 ∙ c.enter-held.ensures.seat.0, c.leave.ensures.same.1 ∙ c.enter-held.ensures.seat.1)
 
 pub returns-clause-owes : goal.returns-clause-owes
-returns-clause-owes g c = done_owes c.args.self.now c.args.d (acquires_of c.args.acquires) c.args.moment c.done-back.result c.args.seat.now c.leave.new.seat (returns-clause-done g c)
+returns-clause-owes g c = done_owes c.args.self.now c.args.d (acquires_of c.args.acquires) c.args.moment c.done-back.result c.args.seat.now c.leave.new.seat c.requires.own (returns-clause-done g c)
