@@ -1,19 +1,16 @@
 -- Steps at one codec of a desk, and rounds over all.
-use Rattle.std.proofs.Common.{ℕ, ◌≡◌, ◌+◌, List, [], ◌∷◌, Option, Some, None, length, subst, ◌∙◌, arith}
+use Rattle.std.proofs.Common.{ℕ, suc, ◌≡◌, ◌+◌, List, [], Option, Some, None, length, sym, subst, ◌∙◌, arith}
 use Rattle.std.specs.Prelude.{slice_get}
 use Rattle.atomic_table.specs.Seated.{TableId}
 use Rattle.atomic_table.specs.declared.shared.Seat.{Seat}
 use Rattle.wc_base.specs.Views.{Log}
 use Rattle.wc_base.specs.declared.seat.View.{View}
-use Rattle.coder_api.specs.declared.slot.SlotEntry.{SlotEntry}
 use Rattle.codec_model.specs.declared.entry.PromiseState.{PromiseState}
-use Rattle.codec_model.specs.Control.{start_item}
 use Rattle.seat_lock.specs.Since.{entries_by}
 use Rattle.seat_lock.specs.SinceLaws.{made_none}
 use Rattle.codec_logs.specs.declared.event.Event.{Event}
-use Rattle.shared_slots.specs.Boxes.{Registry}
 use Rattle.shared_codec.specs.declared.codec.Locked.{Locked}
-use Rattle.shared_codec.specs.Looks.{EndTells}
+use Rattle.shared_codec.specs.Looks.{PromiseTells}
 use Rattle.shared_codec.specs.Settled.{TurnOnceTells}
 use Rattle.shared_codec.specs.Shared.{Shared, NoneIn}
 use Rattle.shared_codec.specs.Workers.{WorkTells}
@@ -23,13 +20,15 @@ use Rattle.flush_promise.specs.Promises.{EndsAs}
 use Rattle.codec_desk.specs.declared.desk.Desk.{Desk}
 use Rattle.codec_desk.specs.declared.desk.Seats.{Seats}
 use Rattle.codec_desk.specs.Each.{Pairs, Each, First, AtSome, OneAt, IsAt}
-use Rattle.codec_desk.specs.EachLaws.{pairs_length, pairs_get, each_same, each_then, first_none, first_one, first_all, one_earlier, some_one, some_then, some_later}
+use Rattle.codec_desk.specs.EachLaws.{pairs_length, pairs_get, each_same, each_one, each_so, each_then, first_none, first_one, first_step, first_all, one_earlier, some_at, some_one, some_then, some_later}
 use Rattle.codec_desk.specs.Clocks.{EndsAt}
-use Rattle.codec_desk.specs.ClockLaws.{ends_then, ends_one}
+use Rattle.codec_desk.specs.ClockLaws.{ends_none, ends_then, ends_one}
+use Rattle.codec_desk.specs.DeskLaws.{sees_same, sees_then}
+use Rattle.work_moments.specs.Moments.{Given}
 use Rattle.codec_desk.specs.Desks.{SitsAt, SeesMore, SitAt}
-use Rattle.codec_desk.specs.Rests.{Looked, Rested, Served, Still, Stirred, NoItem, NoTask}
+use Rattle.codec_desk.specs.Rests.{Looked, Rested, Served, Still, Stirred, NoTask}
 use Rattle.codec_desk.specs.RestLaws.{rested_look, rested_earlier, looked_earlier}
-use Rattle.codec_desk.specs.StepLaws.{made_more, stirred_later, stirred_then, served_earlier, ends_worked, ends_turned, ends_seen}
+use Rattle.codec_desk.specs.StepLaws.{made_more, stirred_later, stirred_then, served_earlier, served_then, served_since, ends_worked, ends_turned, ends_seen}
 
 module _ {C : Type 0} where
   -- a thread has a seat at each codec
@@ -42,23 +41,18 @@ module _ {C : Type 0} where
 module _ {S : Type 0} where
   -- ---- a step that found nothing
 
-  pub no_item : (r : Registry) (moment : ℕ) (result : Option ℕ) (c : View SlotEntry) → result ≡ None → (s : Shared) (a b : Seat (Option S) (View Event)) → WorkTells s r moment result a b c → Rested NoItem s a b
-  no_item r moment result c none s a b told =
-      let x : NoneIn s (λ d. start_item d ≡ None) a b = subst (λ (o : Option ℕ). WorkTells s r moment o a b c) none told in
-      rested_look NoItem s a b x.looked x.none
-
   pub no_task : (result : Option ℕ) → result ≡ None → (s : Shared) (a b : Seat (Option S) (View Event)) → TurnOnceTells s result a b → Rested NoTask s a b
   no_task result none s a b told =
       let x : NoneIn s (λ d. d.tasks ≡ []) a b = subst (λ (o : Option ℕ). TurnOnceTells s o a b) none told in
       rested_look NoTask s a b x.looked x.none
 
   -- a look that saw an end
-  pub saw_end : (place : ℕ) (state : PromiseState) (end : FlushEnd) → ended_state end ≡ state → (s : Shared) (a b : Seat (Option S) (View Event)) → EndTells s place state a b → Looked (EndsAs place end) s a b
-  saw_end place state end is s a b told = (rested_look (EndsAs place end) s a b told.looked (is ∙ told.is)).looked
+  pub saw_end : (place : ℕ) (seen : ℕ × PromiseState) (end : FlushEnd) → ended_state end ≡ seen.1 → (s : Shared) (a b : Seat (Option S) (View Event)) → PromiseTells s place seen a b → Looked (EndsAs place end) s a b
+  saw_end place seen end is s a b told = (rested_look (EndsAs place end) s a b told.looked (is ∙ told.is.1)).looked
 
-  pub saw_earlier : (codec place : ℕ) (state : PromiseState) (end : FlushEnd) (xs : List Shared) (us vs ws : List (Seat (Option S) (View Event))) → ended_state end ≡ state → Each SeesMore xs us vs → OneAt codec (λ s a b. EndTells s place state a b) xs vs ws → IsAt codec (Looked (EndsAs place end)) xs us ws
-  saw_earlier codec place state end xs us vs ws is sees one =
-      one_earlier SeesMore (λ s a b. EndTells s place state a b) (Looked (EndsAs place end)) (λ s a b c more told. looked_earlier (EndsAs place end) s a b c more (saw_end place state end is s b c told)) codec xs us vs ws sees one
+  pub saw_earlier : (codec place : ℕ) (seen : ℕ × PromiseState) (end : FlushEnd) (xs : List Shared) (us vs ws : List (Seat (Option S) (View Event))) → ended_state end ≡ seen.1 → Each SeesMore xs us vs → OneAt codec (λ s a b. PromiseTells s place seen a b) xs vs ws → IsAt codec (Looked (EndsAs place end)) xs us ws
+  saw_earlier codec place seen end xs us vs ws is sees one =
+      one_earlier SeesMore (λ s a b. PromiseTells s place seen a b) (Looked (EndsAs place end)) (λ s a b c more told. looked_earlier (EndsAs place end) s a b c more (saw_end place seen end is s b c told)) codec xs us vs ws sees one
 
   -- ---- rounds
 
@@ -82,6 +76,26 @@ module _ {S : Type 0} where
     pub serve_all : (place : ℕ) (xs : List Shared) (us vs : List (Seat (Option S) (View Event))) → length xs ≡ place → First (Served P) Still place xs us vs → Each (Served P) xs us vs
     serve_all place xs us vs over first = first_all (Served P) Still place xs us vs (omega (arith, over)) first
 
+    -- the same where each may have made entries meanwhile
+    abbrev pub Serves : Shared → Seat (Option S) (View Event) → Seat (Option S) (View Event) → Type 0
+    Serves s a b = SeesMore s a b × Served P s a b
+
+    pub serves_none : (pool slots : TableId) (xs : List Shared) (us : List (Seat (Option S) (View Event))) → Pairs (SitsAt pool slots) 0 xs us → First Serves SeesMore 0 xs us us
+    serves_none pool slots xs us at = first_none Serves SeesMore xs us us (each_same (SitsAt pool slots) SeesMore (λ n x u h. sees_same x u h.idle) 0 xs us at)
+
+    pub serves_more : (place : ℕ) (xs : List Shared) (us vs ws : List (Seat (Option S) (View Event))) → First Serves SeesMore place xs us vs → Each SeesMore xs vs ws → IsAt place (Served P) xs vs ws → First Serves SeesMore (place + 1) xs us ws
+    serves_more place xs us vs ws first each here =
+        let next : suc place ≡ place + 1 = omega arith in
+        subst (λ (m : ℕ). First Serves SeesMore m xs us ws) next
+        (first_step Serves SeesMore SeesMore (Served P)
+        (λ s a b c was more. (sees_then s a b c was.0 more, served_then P s a b c was.0 was.1 more))
+        (λ s a b c was more. sees_then s a b c was more)
+        (λ s a b c was more x. (sees_then s a b c was more, served_since P s a b c was more x))
+        place xs us vs ws first each here)
+
+    pub serves_all : (place : ℕ) (xs : List Shared) (us vs : List (Seat (Option S) (View Event))) → length xs ≡ place → First Serves SeesMore place xs us vs → Each (Served P) xs us vs
+    serves_all place xs us vs over first = each_so Serves (Served P) (λ s a b x. x.1) xs us vs (first_all Serves SeesMore place xs us vs (omega (arith, over)) first)
+
     -- a round, seen from what was done before it
     pub looked_each : (xs : List Shared) (us vs ws : List (Seat (Option S) (View Event))) → Each SeesMore xs us vs → Each (Rested P) xs vs ws → Each (Looked P) xs us ws
     looked_each xs us vs ws sees rested = each_then SeesMore (Rested P) (Looked P) (λ x u v w m r. looked_earlier P x u v w m r.looked) xs us vs ws sees rested
@@ -98,6 +112,12 @@ module _ {S : Type 0} where
       some_later SeesMore Stirred Stirred (λ s a b c more x. stirred_later s a b c (entries_by a.me.0.numbers more.more) (made_more s a b more) x) xs us vs ws sees
       (some_one P Stirred step place xs vs ws one)
 
+  -- this one did
+  pub stir_at : (place : ℕ) (xs : List Shared) (us vs ws : List (Seat (Option S) (View Event))) → Each SeesMore xs us vs → IsAt place Stirred xs vs ws → AtSome Stirred xs us ws
+  stir_at place xs us vs ws sees here =
+      some_later SeesMore Stirred Stirred (λ s a b c more x. stirred_later s a b c (entries_by a.me.0.numbers more.more) (made_more s a b more) x) xs us vs ws sees
+      (some_at Stirred place xs vs ws here)
+
   -- steps that make no end, one after another
   pub ends_more : (xs : List Shared) (us vs ws : List (Seat (Option S) (View Event))) → Each (EndsAt []) xs us vs → Each (EndsAt []) xs vs ws → Each (EndsAt []) xs us ws
   ends_more xs us vs ws x y = each_then (EndsAt []) (EndsAt []) (EndsAt []) (ends_then [] []) xs us vs ws x y
@@ -107,8 +127,14 @@ module _ {S : Type 0} where
   pub turn_ends : (pool slots : TableId) (place : ℕ) (result : Option ℕ) (xs : List Shared) (us vs : List (Seat (Option S) (View Event))) → Pairs (SitsAt pool slots) 0 xs us → OneAt place (λ s a b. TurnOnceTells s result a b) xs us vs → Each (EndsAt []) xs us vs
   turn_ends pool slots place result xs us vs at one = ends_one [] (λ s a b. TurnOnceTells s result a b) (ends_turned result) pool slots place xs us vs at one
 
-  pub look_ends : (pool slots : TableId) (place promise : ℕ) (state : PromiseState) (xs : List Shared) (us vs : List (Seat (Option S) (View Event))) → Pairs (SitsAt pool slots) 0 xs us → OneAt place (λ s a b. EndTells s promise state a b) xs us vs → Each (EndsAt []) xs us vs
-  look_ends pool slots place promise state xs us vs at one = ends_one [] (λ s a b. EndTells s promise state a b) (ends_seen promise state) pool slots place xs us vs at one
+  pub look_ends : (pool slots : TableId) (place promise : ℕ) (seen : ℕ × PromiseState) (xs : List Shared) (us vs : List (Seat (Option S) (View Event))) → Pairs (SitsAt pool slots) 0 xs us → OneAt place (λ s a b. PromiseTells s promise seen a b) xs us vs → Each (EndsAt []) xs us vs
+  look_ends pool slots place promise seen xs us vs at one = ends_one [] (λ s a b. PromiseTells s promise seen a b) (ends_seen promise seen) pool slots place xs us vs at one
 
-  pub item_ends : (pool slots : TableId) (place : ℕ) (r : Registry) (moment : ℕ) (result : Option ℕ) (c : View SlotEntry) (xs : List Shared) (us vs : List (Seat (Option S) (View Event))) → Pairs (SitsAt pool slots) 0 xs us → OneAt place (λ s a b. WorkTells s r moment result a b c) xs us vs → Each (EndsAt (moment ∷ [])) xs us vs
-  item_ends pool slots place r moment result c xs us vs at one = ends_one (moment ∷ []) (λ s a b. WorkTells s r moment result a b c) (ends_worked r moment result c) pool slots place xs us vs at one
+  pub item_ends : (pool slots : TableId) (place : ℕ) (result : Option ℕ) (old now : Option (List ℕ)) (xs : List Shared) (us vs : List (Seat (Option S) (View Event))) → Pairs (SitsAt pool slots) 0 xs us → OneAt place (λ s a b. WorkTells s result old now a b) xs us vs → (moments : List ℕ) × Given old moments now × Each (EndsAt moments) xs us vs
+  item_ends pool slots place result old now xs us vs at one =
+      let told = ends_worked result old now one.partner one.before one.after one.so in (
+        told.0,
+        told.1,
+        subst (λ (l : List (Seat (Option S) (View Event))). Each (EndsAt told.0) xs us l) (sym one.after_is)
+            (each_one (SitsAt pool slots) (EndsAt told.0) (λ n s u h. ends_none told.0 s u) 0 place xs us one.partner one.before one.after at one.partner_is one.before_is told.2),
+      )

@@ -1,5 +1,5 @@
 -- Laws of what clocks tell, and of what is timed by them.
-use Rattle.std.proofs.Common.{ℕ, ◌≡◌, ◌⊎◌, inl, inr, List, [], ◌∷◌, ◌++◌, Option, Some, None, refl, ap, sym, subst, ◌∙◌, append-nil, append_assoc}
+use Rattle.std.proofs.Common.{ℕ, inl, inr, List, [], ◌∷◌, ◌++◌, Option, Some, None, sym, subst}
 use Rattle.atomic_table.specs.Seated.{TableId}
 use Rattle.atomic_table.specs.declared.shared.Seat.{Seat}
 use Rattle.wc_base.specs.declared.seat.View.{View}
@@ -7,29 +7,15 @@ use Rattle.seat_lock.specs.Logs.{Has}
 use Rattle.seat_lock.specs.SinceLaws.{made_none, made_then}
 use Rattle.codec_logs.specs.declared.event.Event.{Event}
 use Rattle.codec_logs.specs.Logs.{entry_of}
+use Rattle.work_moments.specs.Moments.{Given}
+use Rattle.work_moments.specs.MomentLaws.{given_none, given_then}
 use Rattle.shared_codec.specs.Shared.{Shared}
 use Rattle.codec_desk.specs.declared.desk.Desk.{Desk}
 use Rattle.codec_desk.specs.declared.desk.Seats.{Seats}
 use Rattle.codec_desk.specs.Each.{Pairs, Each, OneAt}
 use Rattle.codec_desk.specs.EachLaws.{each_same, each_one, each_then}
 use Rattle.codec_desk.specs.Desks.{SitsAt, SitAt}
-use Rattle.codec_desk.specs.Clocks.{Given, moment_of, IfAmong, AllAt, EndsAt, Timed}
-
--- ---- clocks
-
-pub given_none : (a : Option (List ℕ)) → Given a [] a
-given_none None = refl
-given_none (Some l) = inr (ap (λ (x : List ℕ). Some x) (sym (append-nil l)))
-
--- what was given, and then more
-pub given_then : (a b c : Option (List ℕ)) (m n : List ℕ) → Given a m b → Given b n c → Given a (m ++ n) c
-given_then None b c m n g h = subst (λ (o : Option (List ℕ)). Given o n c) g h
-given_then (Some l) b c m n (inl g) h = inl (subst (λ (o : Option (List ℕ)). Given o n c) g h)
-given_then (Some l) b c m n (inr g) h = by_last (subst (λ (o : Option (List ℕ)). Given o n c) g h)
-  where
-    by_last : (c ≡ None) ⊎ (c ≡ Some ((l ++ m) ++ n)) → (c ≡ None) ⊎ (c ≡ Some (l ++ (m ++ n)))
-    by_last (inl x) = inl x
-    by_last (inr x) = inr (x ∙ ap (λ (y : List ℕ). Some y) (append_assoc l m n))
+use Rattle.codec_desk.specs.Clocks.{moment_of, IfAmong, AllAt, EndsAt, Timed}
 
 -- ---- moments
 

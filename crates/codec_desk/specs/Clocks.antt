@@ -1,5 +1,5 @@
 -- What clocks tell, and what is timed by them.
-use Rattle.std.specs.Prelude.{ℕ, ◌≡◌, ◌⊎◌, List, [], ◌∷◌, ◌++◌, Option, Some, None}
+use Rattle.std.specs.Prelude.{ℕ, List, [], ◌∷◌, Option, Some, None}
 use Rattle.atomic_table.specs.declared.shared.Seat.{Seat}
 use Rattle.wc_base.specs.declared.seat.View.{View}
 use Rattle.codec_model.specs.declared.entry.Entry.{Entry}
@@ -8,15 +8,11 @@ use Rattle.seat_lock.specs.Logs.{Has}
 use Rattle.seat_lock.specs.Since.{MadeSince}
 use Rattle.codec_logs.specs.declared.event.Event.{Event}
 use Rattle.codec_logs.specs.Logs.{entry_of}
+use Rattle.work_moments.specs.Moments.{Given}
 use Rattle.shared_codec.specs.Shared.{Shared}
 use Rattle.codec_desk.specs.declared.desk.Desk.{Desk}
 use Rattle.codec_desk.specs.declared.desk.Seats.{Seats}
 use Rattle.codec_desk.specs.Each.{Each}
-
--- Of the moments that a clock told: these came behind them, or it tells them no more.
-abbrev pub Given : Option (List ℕ) → List ℕ → Option (List ℕ) → Type 0
-Given None more now = now ≡ None
-Given (Some old) more now = (now ≡ None) ⊎ (now ≡ Some (old ++ more))
 
 -- the moment of an end, and of a reclaim
 abbrev pub moment_of : Entry → Option ℕ

@@ -31,14 +31,17 @@ use Rattle.shared_codec.specs.DueLaws.{owed_none, owed_then}
 use Rattle.shared_codec.specs.Keeps.{Keeps, keeps_none, keeps_then}
 use Rattle.shared_codec.specs.Order.{told_op, slot_at, asked_at, done_at}
 use Rattle.shared_codec.specs.OrderLaws.{other_place}
+use Rattle.shared_codec.specs.Owes.{Owes}
 use Rattle.shared_codec.specs.Settles.{Settles, AreOfCodec}
 use Rattle.shared_codec.specs.Shared.{Shared}
 use Rattle.shared_codec.specs.Sums.{dues_of, DuesAddUp}
+use Rattle.shared_codec.specs.Told.{Ending}
+use Rattle.shared_codec.specs.ToldLaws.{ends_none, ends_then}
 use Rattle.codec_desk.specs.declared.desk.Desk.{Desk}
 use Rattle.codec_desk.specs.declared.desk.Seats.{Seats}
 use Rattle.codec_desk.specs.Each.{Each}
 use Rattle.codec_desk.specs.EachLaws.{pairs_after, pairs_get, each_same, each_one, each_other, each_then, total_one}
-use Rattle.codec_desk.specs.Desks.{told, entry_for, SitsAt, SeesMore, InOrderSince, slot_calls, pool_calls, SitAt, Settled}
+use Rattle.codec_desk.specs.Desks.{told, entry_for, SitsAt, SeesMore, InOrderSince, TellsSince, slot_calls, pool_calls, SitAt, Settled}
 
 -- ---- what a pool's entries do for a codec
 
@@ -130,7 +133,7 @@ other_codec : (n k p q : ℕ) → n ≢ k → is_cause (by.Codec n p) (by.Codec 
 other_codec n k p q other = rw (ne_eqb n k other) refl
 
 -- another codec's entries made nothing of these
-slots_apart : (n k place : ℕ) (es : List SlotEntry) → n ≢ k → AreOfCodec k es → flat_map (slot_at n place) es ≡ []
+pub slots_apart : (n k place : ℕ) (es : List SlotEntry) → n ≢ k → AreOfCodec k es → flat_map (slot_at n place) es ≡ []
 slots_apart n k place [] other h = refl
 slots_apart n k place (e ∷ es) other h =
     let here : slot_at n place e ≡ [] = ap (λ (b : Bool). cond b (e ∷ []) []) (ap (is_cause (by.Codec n place)) h.0.1 ∙ other_codec n k place h.0.0 other) in
@@ -142,7 +145,7 @@ does_apart n k place (at, op.Make r f) e other h = absurd h
 does_apart n k place (at, op.Clone r f) e other h = ap (done_at n place) h ∙ ap (λ (b : Bool). cond b (op.Clone r f ∷ []) []) (other_codec n k place at other)
 does_apart n k place (at, op.End r f last) e other h = ap (done_at n place) h.1 ∙ ap (λ (b : Bool). cond b (op.End r f false ∷ []) []) (other_codec n k place at other)
 
-do_apart : (n k place : ℕ) (ps : List (ℕ × PoolOp)) (es : List PoolEntry) → n ≢ k → DoFor k ps es → flat_map (done_at n place) es ≡ []
+pub do_apart : (n k place : ℕ) (ps : List (ℕ × PoolOp)) (es : List PoolEntry) → n ≢ k → DoFor k ps es → flat_map (done_at n place) es ≡ []
 do_apart n k place [] [] other h = refl
 do_apart n k place [] (e ∷ es) other h = absurd h
 do_apart n k place (p ∷ ps) [] other h = absurd h
@@ -153,7 +156,7 @@ do_apart n k place (p ∷ ps) (e ∷ es) other h =
 
 module _ {S : Type 0} where
   -- with a seat nothing was done, and nothing was made by entries of its codec
-  order_apart : (es : List SlotEntry) (ds : List PoolEntry) (s : Shared) (a : Seat (Option S) (View Event)) → ((place : ℕ) → flat_map (slot_at s.codec place) es ≡ []) → ((place : ℕ) → flat_map (done_at s.codec place) ds ≡ []) → InOrderSince es ds s a a
+  pub order_apart : (es : List SlotEntry) (ds : List PoolEntry) (s : Shared) (a : Seat (Option S) (View Event)) → ((place : ℕ) → flat_map (slot_at s.codec place) es ≡ []) → ((place : ℕ) → flat_map (done_at s.codec place) ds ≡ []) → InOrderSince es ds s a a
   order_apart es ds s a none less = record {
     slots = [];
     asked = owed_none slot_dues s.codec s.opening a.me.0;
@@ -163,17 +166,20 @@ module _ {S : Type 0} where
     media_order = λ place. sym (less place);
   }
 
-  order_one : (s : Shared) (a b : Seat (Option S) (View Event)) (c d : View SlotEntry) (p q : View PoolEntry) (x : Settles s a.me.0 b.me.0 c d p q) → InOrderSince x.entries x.does s a b
-  order_one s a b c d p q x = record {
-    slots = x.entries;
-    asked = x.owes.slots;
+  pub order_for : (s : Shared) (a b : Seat (Option S) (View Event)) (entries : List SlotEntry) (calls : List (ℕ × PoolOp)) (ends : List Ending) (does : List PoolEntry) → Owes s entries calls ends a.me.0 b.me.0 → DoFor s.codec calls does → InOrderSince entries does s a b
+  order_for s a b entries calls ends does owes are = record {
+    slots = entries;
+    asked = owes.slots;
     slot_order = λ place. refl;
-    media = x.calls;
-    lent = x.owes.pool;
-    media_order = λ place. do_at s.codec place x.calls x.does (subst AreTold x.owes.pool.owed (told_dues s.codec a.me.0.numbers (track s.opening a.me.0.log) x.owes.pool.more)) x.are;
+    media = calls;
+    lent = owes.pool;
+    media_order = λ place. do_at s.codec place calls does (subst AreTold owes.pool.owed (told_dues s.codec a.me.0.numbers (track s.opening a.me.0.log) owes.pool.more)) are;
   }
 
-  order_then : (es fs : List SlotEntry) (ds gs : List PoolEntry) (s : Shared) (a b c : Seat (Option S) (View Event)) → InOrderSince es ds s a b → InOrderSince fs gs s b c → InOrderSince (es ++ fs) (ds ++ gs) s a c
+  order_one : (s : Shared) (a b : Seat (Option S) (View Event)) (c d : View SlotEntry) (p q : View PoolEntry) (x : Settles s a.me.0 b.me.0 c d p q) → InOrderSince x.entries x.does s a b
+  order_one s a b c d p q x = order_for s a b x.entries x.calls x.ends x.does x.owes x.are
+
+  pub order_then : (es fs : List SlotEntry) (ds gs : List PoolEntry) (s : Shared) (a b c : Seat (Option S) (View Event)) → InOrderSince es ds s a b → InOrderSince fs gs s b c → InOrderSince (es ++ fs) (ds ++ gs) s a c
   order_then es fs ds gs s a b c x y = record {
     slots = x.slots ++ y.slots;
     asked = owed_then slot_dues s.codec s.opening a.me.0 b.me.0 c.me.0 x.slots y.slots x.asked y.asked;
@@ -187,11 +193,11 @@ module _ {S : Type 0} where
 
 -- ---- bags that grow
 
-bag_of : {X : Type 0} (a b : List X) → a ≡ b → SameBag a b
+pub bag_of : {X : Type 0} (a b : List X) → a ≡ b → SameBag a b
 bag_of a b is t = ap (sum_by t) is
 
 -- what grew, and grew again
-grown : {X : Type 0} (u v w m n : List X) → SameBag v (u ++ m) → SameBag w (v ++ n) → SameBag w (u ++ (m ++ n))
+pub grown : {X : Type 0} (u v w m n : List X) → SameBag v (u ++ m) → SameBag w (v ++ n) → SameBag w (u ++ (m ++ n))
 grown u v w m n i j t =
     let a1 = i t in
     let a2 = j t in
@@ -203,10 +209,10 @@ grown u v w m n i j t =
 
 -- ---- what one codec calls for
 
-slots_grow : (s : Shared) (u v : View Event) (es : List SlotEntry) → dues_of slot_dues s.codec s.opening v ≡ dues_of slot_dues s.codec s.opening u ++ es → SameBag (dues_of slot_dues s.codec s.opening v) (dues_of slot_dues s.codec s.opening u ++ es)
+pub slots_grow : (s : Shared) (u v : View Event) (es : List SlotEntry) → dues_of slot_dues s.codec s.opening v ≡ dues_of slot_dues s.codec s.opening u ++ es → SameBag (dues_of slot_dues s.codec s.opening v) (dues_of slot_dues s.codec s.opening u ++ es)
 slots_grow s u v es is = bag_of (dues_of slot_dues s.codec s.opening v) (dues_of slot_dues s.codec s.opening u ++ es) is
 
-calls_grow : (s : Shared) (u v : View Event) (ps : List (ℕ × PoolOp)) (es : List PoolEntry) → dues_of media_dues s.codec s.opening v ≡ dues_of media_dues s.codec s.opening u ++ ps → DoFor s.codec ps es
+pub calls_grow : (s : Shared) (u v : View Event) (ps : List (ℕ × PoolOp)) (es : List PoolEntry) → dues_of media_dues s.codec s.opening v ≡ dues_of media_dues s.codec s.opening u ++ ps → DoFor s.codec ps es
     → SameBag (map (entry_for s.codec) (dues_of media_dues s.codec s.opening v)) (map (entry_for s.codec) (dues_of media_dues s.codec s.opening u) ++ map told es)
 calls_grow s u v ps es is done =
     let k : ℕ = s.codec in
@@ -265,6 +271,9 @@ module _ {C : Type 0} where
         order = subst (λ (l : List (Seat (Option (Locked C)) (View Event))). Each (InOrderSince x.entries x.does) desk.codecs.items a.codecs.items l) (sym is)
             (each_other Q (InOrderSince x.entries x.does) place others 0 place (omega arith) desk.codecs.items a.codecs.items s u v at.codecs codec seat
             (order_one s u v a.slots.me.0 b.slots.me.0 a.pool.me.0 b.pool.me.0 x));
+        told = subst (λ (l : List (Seat (Option (Locked C)) (View Event))). Each (TellsSince b.slots.me.0.log) desk.codecs.items a.codecs.items l) (sym is)
+            (each_one Q (TellsSince b.slots.me.0.log) (λ n t w h. ends_none b.slots.me.0.log t.codec t.opening w.me.0) 0 place desk.codecs.items a.codecs.items s u v at.codecs codec seat
+            (record { ends = x.ends; owed = x.owes.ended; told = x.told }));
       }
 
   -- with no step nothing is called for and nothing made
@@ -280,6 +289,7 @@ module _ {C : Type 0} where
     pool = made_none a.pool.me.0;
     lends = λ t. ap (sum_by t) (sym (append-nil (pool_calls desk.codecs.items a.codecs.items)));
     order = each_same (SitsAt desk.pool desk.slots.id) (InOrderSince [] []) (λ n t w h. order_apart [] [] t w (λ p. refl) (λ p. refl)) 0 desk.codecs.items a.codecs.items at.codecs;
+    told = each_same (SitsAt desk.pool desk.slots.id) (TellsSince a.slots.me.0.log) (λ n t w h. ends_none a.slots.me.0.log t.codec t.opening w.me.0) 0 desk.codecs.items a.codecs.items at.codecs;
   }
 
   -- one step after another
@@ -297,6 +307,7 @@ module _ {C : Type 0} where
         pool = made_then a.pool.me.0 b.pool.me.0 c.pool.me.0 x.does y.does x.pool y.pool;
         lends = λ t. calls t ∙ ap (λ (l : List PoolEntry). sum_by t (pool_calls desk.codecs.items a.codecs.items ++ l)) (sym (map_both told x.does y.does));
         order = each_then (InOrderSince x.entries x.does) (InOrderSince y.entries y.does) (InOrderSince (x.entries ++ y.entries) (x.does ++ y.does)) (order_then x.entries y.entries x.does y.does) desk.codecs.items a.codecs.items b.codecs.items c.codecs.items x.order y.order;
+        told = each_then (TellsSince b.slots.me.0.log) (TellsSince c.slots.me.0.log) (TellsSince c.slots.me.0.log) (λ s u v w p q. ends_then b.slots.me.0.log y.made.more c.slots.me.0.log s.codec s.opening u.me.0 v.me.0 w.me.0 y.made.longer p q) desk.codecs.items a.codecs.items b.codecs.items c.codecs.items x.told y.told;
       }
 
   -- a thread's seats at a desk stay seats at it

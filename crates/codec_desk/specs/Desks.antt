@@ -19,6 +19,7 @@ use Rattle.shared_codec.specs.Keeps.{Keeps}
 use Rattle.shared_codec.specs.Order.{told_op, slot_at, asked_at, done_at}
 use Rattle.shared_codec.specs.Shared.{Shared}
 use Rattle.shared_codec.specs.Sums.{dues_of}
+use Rattle.shared_codec.specs.Told.{EndsAreTold}
 use Rattle.codec_desk.specs.declared.desk.Desk.{Desk}
 use Rattle.codec_desk.specs.declared.desk.Seats.{Seats}
 use Rattle.codec_desk.specs.Each.{Pairs, Each, total_of}
@@ -56,6 +57,10 @@ module _ {S : Type 0} where
     pub lent : OwedSince media_dues s.codec s.opening a.me.0 b.me.0 media
     pub media_order : (place : ℕ) → flat_map (asked_at s.codec place) media ≡ flat_map (done_at s.codec place) does
 
+  -- What the items tell that the codec's seat ended since is so by this log of the registry.
+  abbrev pub TellsSince : Log SlotEntry → Shared → Seat (Option S) (View Event) → Seat (Option S) (View Event) → Type 0
+  TellsSince slots s a b = EndsAreTold slots s.codec s.opening a.me.0 b.me.0
+
   -- What all entries of these seats call for in the registry, and in the pool: codec after codec.
   abbrev pub slot_calls : List Shared → List (Seat (Option S) (View Event)) → List SlotEntry
   slot_calls codecs seats = total_of (λ s a. dues_of slot_dues s.codec s.opening a.me.0) codecs seats
@@ -73,7 +78,7 @@ module _ {C : Type 0} where
 
   -- What one thread did with its seats at a desk. Each stays the same seat, and has seen more. What all entries that it made at
   -- the codecs call for in the registry, and in the pool, is what it made there: what is called for grew by that, in any order, and
-  -- by each entry of a codec in that entry's order.
+  -- by each entry of a codec in that entry's order. What the items that it ended tell is so by all that the registry's seat has seen.
   pub record Settled (desk : Desk C) (a b : Seats C) : Type 0 where
     pub seats : Each SeesMore desk.codecs.items a.codecs.items b.codecs.items
     pub slot_seat : Keeps desk.slots.id a.slots b.slots
@@ -85,3 +90,4 @@ module _ {C : Type 0} where
     pub pool : MadeSince a.pool.me.0 b.pool.me.0 does
     pub lends : SameBag (pool_calls desk.codecs.items b.codecs.items) (pool_calls desk.codecs.items a.codecs.items ++ map told does)
     pub order : Each (InOrderSince entries does) desk.codecs.items a.codecs.items b.codecs.items
+    pub told : Each (TellsSince b.slots.me.0.log) desk.codecs.items a.codecs.items b.codecs.items

@@ -199,6 +199,98 @@ module _ {X A : Type 0} where
     first_all (suc n) (x ∷ xs) (u ∷ us) [] long h = absurd h
     first_all (suc n) (x ∷ xs) (u ∷ us) (v ∷ vs) long h = (h.0, first_all n xs us vs (omega (arith, long)) h.1)
 
+  module _ (R S T P : X → A → A → Type 0) where
+    -- the first are as they were, and the others too, as each goes on
+    pub first_keep : ((x : X) (u v w : A) → R x u v → T x v w → R x u w) → ((x : X) (u v w : A) → S x u v → T x v w → S x u w) → (n : ℕ) (xs : List X) (us vs ws : List A) → First R S n xs us vs → Each T xs vs ws → First R S n xs us ws
+    first_keep rt st n [] [] [] [] h e = h
+    first_keep rt st n [] [] [] (w ∷ ws) h e = absurd e
+    first_keep rt st n [] [] (v ∷ vs) ws h e = absurd h
+    first_keep rt st n [] (u ∷ us) vs ws h e = absurd h
+    first_keep rt st zero (x ∷ xs) [] vs ws h e = absurd h
+    first_keep rt st (suc n) (x ∷ xs) [] vs ws h e = absurd h
+    first_keep rt st zero (x ∷ xs) (u ∷ us) [] ws h e = absurd h
+    first_keep rt st (suc n) (x ∷ xs) (u ∷ us) [] ws h e = absurd h
+    first_keep rt st n (x ∷ xs) (u ∷ us) (v ∷ vs) [] h e = absurd e
+    first_keep rt st zero (x ∷ xs) (u ∷ us) (v ∷ vs) (w ∷ ws) h e = (st x u v w h.0 e.0, first_keep rt st zero xs us vs ws h.1 e.1)
+    first_keep rt st (suc n) (x ∷ xs) (u ∷ us) (v ∷ vs) (w ∷ ws) h e = (rt x u v w h.0 e.0, first_keep rt st n xs us vs ws h.1 e.1)
+
+    -- one more of the first, of which more is so
+    pub first_step : ((x : X) (u v w : A) → R x u v → T x v w → R x u w) → ((x : X) (u v w : A) → S x u v → T x v w → S x u w) → ((x : X) (u v w : A) → S x u v → T x v w → P x v w → R x u w)
+        → (n : ℕ) (xs : List X) (us vs ws : List A) → First R S n xs us vs → Each T xs vs ws → IsAt n P xs vs ws → First R S (suc n) xs us ws
+    first_step rt st sp n [] us vs ws h e o = absurd (let bad = o.partner_is in cc)
+    first_step rt st sp zero (x ∷ xs) [] vs ws h e o = absurd h
+    first_step rt st sp (suc n) (x ∷ xs) [] vs ws h e o = absurd h
+    first_step rt st sp zero (x ∷ xs) (u ∷ us) [] ws h e o = absurd h
+    first_step rt st sp (suc n) (x ∷ xs) (u ∷ us) [] ws h e o = absurd h
+    first_step rt st sp n (x ∷ xs) (u ∷ us) (v ∷ vs) [] h e o = absurd e
+    first_step rt st sp zero (x ∷ xs) (u ∷ us) (v ∷ vs) (w ∷ ws) h e o =
+        let a : x ≡ o.partner = (let is = o.partner_is in cc) in
+        let b : v ≡ o.before = (let is = o.before_is in cc) in
+        let c : w ≡ o.after = (let is = o.after_is in cc) in
+        let so : P x v w = subst (λ (z : X × A × A). P z.0 z.1 z.2) (λ i. (sym a i, sym b i, sym c i)) o.so in
+        (sp x u v w h.0 e.0 so, first_keep rt st zero xs us vs ws h.1 e.1)
+    first_step rt st sp (suc n) (x ∷ xs) (u ∷ us) (v ∷ vs) (w ∷ ws) h e o =
+        (rt x u v w h.0 e.0, first_step rt st sp n xs us vs ws h.1 e.1 (record { partner = o.partner; before = o.before; after = o.after; partner_is = o.partner_is; before_is = o.before_is; after_is = o.after_is; so = o.so }))
+
+  -- the one of which this is so is one of them
+  pub some_at : (P : X → A → A → Type 0) (n : ℕ) (xs : List X) (us vs : List A) → IsAt n P xs us vs → AtSome P xs us vs
+  some_at P n [] us vs o = absurd (let bad = o.partner_is in cc)
+  some_at P n (x ∷ xs) [] vs o = absurd (let bad = o.before_is in cc)
+  some_at P n (x ∷ xs) (u ∷ us) [] o = absurd (let bad = o.after_is in cc)
+  some_at P zero (x ∷ xs) (u ∷ us) (v ∷ vs) o =
+      let a : x ≡ o.partner = (let is = o.partner_is in cc) in
+      let b : u ≡ o.before = (let is = o.before_is in cc) in
+      let c : v ≡ o.after = (let is = o.after_is in cc) in
+      inl (subst (λ (z : X × A × A). P z.0 z.1 z.2) (λ i. (sym a i, sym b i, sym c i)) o.so)
+  some_at P (suc n) (x ∷ xs) (u ∷ us) (v ∷ vs) o =
+      inr (some_at P n xs us vs (record { partner = o.partner; before = o.before; after = o.after; partner_is = o.partner_is; before_is = o.before_is; after_is = o.after_is; so = o.so }))
+
+  module _ (P Q : X → A → A → Type 0) where
+    -- what is so of the one that has changed
+    pub one_at : ((x : X) (u v : A) → P x u v → Q x u v) → (place : ℕ) (xs : List X) (us vs : List A) → OneAt place P xs us vs → IsAt place Q xs us vs
+    one_at step place xs us vs o = record {
+      partner = o.partner;
+      before = o.before;
+      after = o.after;
+      partner_is = o.partner_is;
+      before_is = o.before_is;
+      after_is = subst (λ (l : List A). slice_get l place ≡ Some o.after) (sym o.after_is) (set_there place us o.before o.after o.before_is);
+      so = step o.partner o.before o.after o.so;
+    }
+
+  -- what an element is now
+  pub each_forth : (R : X → A → A → Type 0) (i : ℕ) (xs : List X) (us vs : List A) (x : X) (u : A) → Each R xs us vs → slice_get xs i ≡ Some x → slice_get us i ≡ Some u → (v : A) × (slice_get vs i ≡ Some v) × R x u v
+  each_forth R i [] us vs x u h at there = absurd cc
+  each_forth R i (y ∷ xs) [] vs x u h at there = absurd cc
+  each_forth R i (y ∷ xs) (w ∷ us) [] x u h at there = absurd h
+  each_forth R zero (y ∷ xs) (w ∷ us) (z ∷ vs) x u h at there =
+      let e : y ≡ x = cc in
+      let f : w ≡ u = cc in
+      (z, refl, subst (λ (p : X × A). R p.0 p.1 z) (λ i. (e i, f i)) h.0)
+  each_forth R (suc i) (y ∷ xs) (w ∷ us) (z ∷ vs) x u h at there = each_forth R i xs us vs x u h.1 at there
+
+  module _ (P Q : X → A → A → Type 0) where
+    -- more is so of the one at a place
+    pub at_so : ((x : X) (u v : A) → P x u v → Q x u v) → (place : ℕ) (xs : List X) (us vs : List A) → IsAt place P xs us vs → IsAt place Q xs us vs
+    at_so step place xs us vs o = record { partner = o.partner; before = o.before; after = o.after; partner_is = o.partner_is; before_is = o.before_is; after_is = o.after_is; so = step o.partner o.before o.after o.so }
+
+  module _ (P T R : X → A → A → Type 0) where
+    -- the one at a place, as each goes on
+    pub at_then : ((x : X) (u v w : A) → P x u v → T x v w → R x u w) → (place : ℕ) (xs : List X) (us vs ws : List A) → IsAt place P xs us vs → Each T xs vs ws → IsAt place R xs us ws
+    at_then step place xs us vs ws o each =
+        let next = each_forth T place xs vs ws o.partner o.after each o.partner_is o.after_is in
+        record { partner = o.partner; before = o.before; after = next.0; partner_is = o.partner_is; before_is = o.before_is; after_is = next.1; so = step o.partner o.before o.after next.0 o.so next.2 }
+
+  module _ (P Q : X → A → A → Type 0) where
+    -- more is so of each
+    pub each_so : ((x : X) (u v : A) → P x u v → Q x u v) → (xs : List X) (us vs : List A) → Each P xs us vs → Each Q xs us vs
+    each_so step [] [] [] h = tt
+    each_so step [] [] (v ∷ vs) h = absurd h
+    each_so step [] (u ∷ us) vs h = absurd h
+    each_so step (x ∷ xs) [] vs h = absurd h
+    each_so step (x ∷ xs) (u ∷ us) [] h = absurd h
+    each_so step (x ∷ xs) (u ∷ us) (v ∷ vs) h = (step x u v h.0, each_so step xs us vs h.1)
+
   module _ {D : Type 0} (f : X → A → List D) where
     -- what one comes to besides is what all come to besides
     pub total_one : (i : ℕ) (xs : List X) (us : List A) (x : X) (u v : A) (more : List D) → slice_get xs i ≡ Some x → slice_get us i ≡ Some u → SameBag (f x v) (f x u ++ more) → SameBag (total_of f xs (set us i v)) (total_of f xs us ++ more)

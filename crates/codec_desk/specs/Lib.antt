@@ -9,5 +9,8 @@ pub mod RunLaws
 pub mod Clocks
 pub mod ClockLaws
 pub mod StepLaws
+pub mod Items
+pub mod ItemLaws
+pub mod Rooms
 pub mod Named
 pub mod NamedLaws

@@ -7,15 +7,13 @@ use Rattle.atomic_table.specs.declared.shared.Seat.{Seat}
 use Rattle.wc_base.specs.declared.error.NoMemory.{NoMemory}
 use Rattle.wc_base.specs.declared.seat.View.{View}
 use Rattle.wc_base.specs.declared.who.Who.{Who}
-use Rattle.coder_api.specs.declared.slot.SlotEntry.{SlotEntry}
 use Rattle.codec_model.specs.declared.entry.{Call.Call, PromiseState.PromiseState}
 use Rattle.codec_accounts.specs.Bags.{SameBag}
 use Rattle.codec_accounts.specs.BagsLaws.{weigh_append}
 use Rattle.codec_logs.specs.declared.event.Event.{Event}
-use Rattle.shared_slots.specs.Boxes.{Registry}
 use Rattle.shared_codec.specs.declared.settling.Answer.{Answer}
 use Rattle.shared_codec.specs.Dues.{Called, call_dues}
-use Rattle.shared_codec.specs.Looks.{EndTells}
+use Rattle.shared_codec.specs.Looks.{PromiseTells}
 use Rattle.shared_codec.specs.Names.{Names, answered_calls}
 use Rattle.shared_codec.specs.NameLaws.{saw_names, answer_names, turn_once_names, work_names}
 use Rattle.shared_codec.specs.Settled.{AnswerTells, TurnOnceTells}
@@ -54,17 +52,17 @@ module _ {S : Type 0} where
   -- ---- steps at one codec
 
   -- an item, a turn and a look are no calls of callers
-  pub worked_calls : (place : ℕ) (r : Registry) (moment : ℕ) (result : Option ℕ) (c : View SlotEntry) (xs : List Shared) (us vs : List (Seat (Option S) (View Event))) → OneAt place (λ s u v. WorkTells s r moment result u v c) xs us vs → SameBag (calls_made xs vs) (calls_made xs us ++ [])
-  worked_calls place r moment result c xs us vs one =
-      named_one [] (λ s u v. WorkTells s r moment result u v c) (λ s u v told. work_names s r moment result u v c told) place xs us vs one
+  pub worked_calls : (place : ℕ) (result : Option ℕ) (old now : Option (List ℕ)) (xs : List Shared) (us vs : List (Seat (Option S) (View Event))) → OneAt place (λ s u v. WorkTells s result old now u v) xs us vs → SameBag (calls_made xs vs) (calls_made xs us ++ [])
+  worked_calls place result old now xs us vs one =
+      named_one [] (λ s u v. WorkTells s result old now u v) (λ s u v told. work_names s result old now u v told) place xs us vs one
 
   pub turned_calls : (place : ℕ) (result : Option ℕ) (xs : List Shared) (us vs : List (Seat (Option S) (View Event))) → OneAt place (λ s u v. TurnOnceTells s result u v) xs us vs → SameBag (calls_made xs vs) (calls_made xs us ++ [])
   turned_calls place result xs us vs one =
       named_one [] (λ s u v. TurnOnceTells s result u v) (λ s u v told. turn_once_names s result u v told) place xs us vs one
 
-  pub looked_calls : (place promise : ℕ) (state : PromiseState) (xs : List Shared) (us vs : List (Seat (Option S) (View Event))) → OneAt place (λ s u v. EndTells s promise state u v) xs us vs → SameBag (calls_made xs vs) (calls_made xs us ++ [])
-  looked_calls place promise state xs us vs one =
-      named_one [] (λ s u v. EndTells s promise state u v) (λ s u v told. saw_names s _ u v told) place xs us vs one
+  pub looked_calls : (place promise : ℕ) (seen : ℕ × PromiseState) (xs : List Shared) (us vs : List (Seat (Option S) (View Event))) → OneAt place (λ s u v. PromiseTells s promise seen u v) xs us vs → SameBag (calls_made xs vs) (calls_made xs us ++ [])
+  looked_calls place promise seen xs us vs one =
+      named_one [] (λ s u v. PromiseTells s promise seen u v) (λ s u v told. saw_names s _ u v told) place xs us vs one
 
   -- a call of a caller is that call, at the codec of this place
   pub answered_at : (pool slots : TableId) (place : ℕ) (who : Who) (x : Call) (result : Result Answer NoMemory) (xs : List Shared) (us vs : List (Seat (Option S) (View Event))) → Pairs (SitsAt pool slots) 0 xs us → OneAt place (λ s u v. AnswerTells s who x result u v) xs us vs → SameBag (calls_made xs vs) (calls_made xs us ++ answered_calls place who x result)

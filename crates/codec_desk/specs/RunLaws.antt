@@ -12,21 +12,18 @@ use Rattle.codec_model.specs.declared.entry.{Opening.Opening, Entry.Entry, Call.
 use Rattle.codec_model.specs.declared.entry.Entry.TheVariants as entry
 use Rattle.codec_model.specs.Held.{is_removal}
 use Rattle.codec_core.specs.Job.{DoneValue}
-use Rattle.codec_media.specs.Holding.{EndedValue}
 use Rattle.codec_accounts.specs.Boxes.{Act, Asks, Begins, Ends, Removes, Other, act_of, removal_act}
 use Rattle.seat_lock.specs.Logs.{IsNotIn, NoneBy, Continues}
 use Rattle.seat_lock.specs.Seats.{Sitting}
 use Rattle.codec_logs.specs.declared.event.Event.{Event}
 use Rattle.codec_logs.specs.Logs.{Track, opening_track, act_in, entry_of, runner_by, track_made, track_from, track}
 use Rattle.codec_logs.specs.LogLaws.{track_append}
-use Rattle.shared_slots.specs.Boxes.{Registry}
 use Rattle.shared_codec.specs.declared.settling.Answer.{Answer}
-use Rattle.shared_codec.specs.Jobs.{DoneIn}
-use Rattle.shared_codec.specs.Looks.{EndTells}
-use Rattle.shared_codec.specs.Settled.{AnswerTells, TurnOnceTells}
+use Rattle.shared_codec.specs.Looks.{PromiseTells}
+use Rattle.shared_codec.specs.Settled.{AnswerTells, TurnOnceTells, ReclaimOnceTells}
 use Rattle.shared_codec.specs.Shared.{Shared, MadeIn, LookedIn, state_in}
-use Rattle.shared_codec.specs.Workers.{WorkTells}
-use Rattle.codec_desk.specs.Each.{OneAt}
+use Rattle.shared_codec.specs.Workers.{FinishTells, WorkTells}
+use Rattle.codec_desk.specs.Each.{Each, OneAt}
 use Rattle.codec_desk.specs.Runs.{IsNoneOf, RunsNone, EachRunsNone}
 
 -- ---- the seat whose item is at work
@@ -81,21 +78,22 @@ module _ {S : Type 0} where
 
   -- ---- steps of threads
 
+  -- the end of an item
+  pub none_finished : (s : Shared) (d : DoneValue) (acquires : List SlotEntry) (moment place : ℕ) (a b : Seat (Option S) (View Event)) → FinishTells s d acquires moment place a b → RunsNone s b
+  none_finished s d acquires moment place a b told =
+      let m = told.2.made in
+      let p = m.passes in
+      let x : Track = track s.opening p.log in
+      let l : Log Event = (a.me.0.number, Made m.event) ∷ [] in
+      let after : IsNoneOf (runner_by (act_of (entry_of m.event) x.state) a.me.0.number x.runner) a.me.0.numbers =
+      subst (λ (e : Entry). IsNoneOf (runner_by (act_of e x.state) a.me.0.number x.runner) a.me.0.numbers) (sym m.entry_is) tt in
+      subst (λ (m : Sitting S Event). IsNoneOf (track s.opening m.0.log).runner m.0.numbers) (sym p.view)
+      (subst (λ (x : Track). IsNoneOf x.runner a.me.0.numbers) (sym (track_append (opening_track s.opening) p.log l)) after)
+
   -- an item, from its start to its end, or a look
-  pub none_worked : (s : Shared) (r : Registry) (moment : ℕ) (result : Option ℕ) (a b : Seat (Option S) (View Event)) (c : View SlotEntry) → WorkTells s r moment result a b c → RunsNone s a → RunsNone s b
-  none_worked s r moment None a b c told none = none_looked s a b told.looked none
-  none_worked s r moment (Some place) a b c told none = ended s told.done told.acquires moment told.back told.middle b told.finished
-    where
-      ended : (s : Shared) (d : DoneValue) (acquires : List SlotEntry) (moment : ℕ) (back : EndedValue) (a b : Seat (Option S) (View Event)) → DoneIn s d acquires moment back a b → RunsNone s b
-      ended s d acquires moment back a b done =
-          let m = done.made in
-          let p = m.passes in
-          let x : Track = track s.opening p.log in
-          let l : Log Event = (a.me.0.number, Made m.event) ∷ [] in
-          let after : IsNoneOf (runner_by (act_of (entry_of m.event) x.state) a.me.0.number x.runner) a.me.0.numbers =
-          subst (λ (e : Entry). IsNoneOf (runner_by (act_of e x.state) a.me.0.number x.runner) a.me.0.numbers) (sym m.entry_is) tt in
-          subst (λ (m : Sitting S Event). IsNoneOf (track s.opening m.0.log).runner m.0.numbers) (sym p.view)
-          (subst (λ (x : Track). IsNoneOf x.runner a.me.0.numbers) (sym (track_append (opening_track s.opening) p.log l)) after)
+  pub none_worked : (s : Shared) (result : Option ℕ) (old now : Option (List ℕ)) (a b : Seat (Option S) (View Event)) → WorkTells s result old now a b → RunsNone s a → RunsNone s b
+  none_worked s None old now a b told none = none_looked s a b told.0.looked none
+  none_worked s (Some place) old now a b told none = none_finished s told.done told.acquires told.moment place told.middle b told.finish
 
   pub none_answered : (s : Shared) (who : Who) (call : Call) (result : Result Answer NoMemory) (a b : Seat (Option S) (View Event)) → AnswerTells s who call result a b → RunsNone s a → RunsNone s b
   none_answered s who call (Ok answer) a b told none =
@@ -109,8 +107,22 @@ module _ {S : Type 0} where
       none_made s entry.Turn [] a b m (λ h. removal_leaves (is_removal entry.Turn (state_in s m.passes.log)) a.me.0.number (track s.opening m.passes.log).runner a.me.0.numbers h) none
   none_turned s None a b told none = none_looked s a b told.looked none
 
-  pub none_seen : (s : Shared) (promise : ℕ) (state : PromiseState) (a b : Seat (Option S) (View Event)) → EndTells s promise state a b → RunsNone s a → RunsNone s b
-  none_seen s promise state a b told none = none_looked s a b told.looked none
+  pub none_seen : (s : Shared) (promise : ℕ) (seen : ℕ × PromiseState) (a b : Seat (Option S) (View Event)) → PromiseTells s promise seen a b → RunsNone s a → RunsNone s b
+  none_seen s promise seen a b told none = none_looked s a b told.looked none
+
+  pub none_reclaimed : (s : Shared) (now : ℕ) (result : Option ℕ) (a b : Seat (Option S) (View Event)) → ReclaimOnceTells s now result a b → RunsNone s a → RunsNone s b
+  none_reclaimed s now (Some place) a b told none =
+      let m = told.2.made in
+      none_made s (entry.Reclaim now) [] a b m (λ h. removal_leaves (is_removal (entry.Reclaim now) (state_in s m.passes.log)) a.me.0.number (track s.opening m.passes.log).runner a.me.0.numbers h) none
+  none_reclaimed s now None a b told none = none_looked s a b told.looked none
+
+  pub none_each : (xs : List Shared) (us vs : List (Seat (Option S) (View Event))) → Each (λ s u v. RunsNone s u → RunsNone s v) xs us vs → EachRunsNone xs us → EachRunsNone xs vs
+  none_each [] [] [] h none = tt
+  none_each [] [] (v ∷ vs) h none = absurd h
+  none_each [] (u ∷ us) vs h none = absurd h
+  none_each (x ∷ xs) [] vs h none = absurd h
+  none_each (x ∷ xs) (u ∷ us) [] h none = absurd h
+  none_each (x ∷ xs) (u ∷ us) (v ∷ vs) h none = (h.0 none.0, none_each xs us vs h.1 none.1)
 
   none_set : (i : ℕ) (xs : List Shared) (us : List (Seat (Option S) (View Event))) (x : Shared) (u v : Seat (Option S) (View Event)) → slice_get xs i ≡ Some x → slice_get us i ≡ Some u → (RunsNone x u → RunsNone x v) → EachRunsNone xs us → EachRunsNone xs (set us i v)
   none_set i [] us x u v at there step none = absurd cc

@@ -2,16 +2,19 @@
 //! and what its entries call for elsewhere is what it makes there.
 #![tactic(auto)]
 
-mod clock;
 mod desk;
 mod helping;
+mod items;
 mod loops;
+mod pause;
+mod rooms;
 mod rounds;
 mod steps;
 
-pub use clock::Clock;
 pub use desk::{Desk, Seats};
 pub use helping::await_helping;
+pub use items::work_item;
 pub use loops::{item_loop, turn_loop};
 pub use rounds::{item_round, turn_round};
-pub use steps::{call_once, promise_state, turn_once, work_item};
+pub use steps::{call_once, look_at_promise, turn_once};
+pub use work_moments::{Clock, Gate, OpenGate, Watch};

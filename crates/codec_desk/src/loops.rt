@@ -7,25 +7,26 @@ ghost use Rattle.codec_desk.specs.Named.{Calls};
 ghost use Rattle.codec_desk.specs.Rests.{Looked, NoItem, NoTask};
 ghost use Rattle.codec_desk.specs.Runs.{EachRunsNone};
 
-use crate::clock::Clock;
 use crate::desk::{Desk, Seats};
+use crate::pause::rest_unless;
 use crate::rounds::{item_round, turn_round};
 use coder_api::Coder;
 use std::alloc::Global;
 use std::sync::Wait;
 use std::sync::atomic::{AtomicU64, Ordering};
-use std::thread;
+use work_moments::{Clock, Gate};
 
 /// Works on all codecs until a whole round finds no item that may start, where that round began with no caller left. `callers`
 /// counts the callers that still go on; no clause rests on it. On each codec the seats then looked, and no item could start. Each
 /// end is at a moment that the clock gave.
-pub fn item_loop<C: Coder, K: Clock, R: Wait>(
+pub fn item_loop<C: Coder, K: Clock, G: Gate, R: Wait>(
     rt: &R,
     alloc: Global,
     desk: &Desk<C>,
     seats: &mut Seats<C>,
     callers: &AtomicU64,
     clock: &mut K,
+    gate: &mut G,
 )
     requires { SitAt desk.now seats.old }
     ensures sits { SitAt desk.now seats.new }
@@ -37,13 +38,14 @@ pub fn item_loop<C: Coder, K: Clock, R: Wait>(
         desk.now.codecs.items seats.old.codecs.items seats.new.codecs.items }
     ensures timed { Timed desk.now seats.old seats.new (K.told clock.old) (K.told clock.new) }
 {
+    let mut rested = 0;
     for _ in rt.forever() {
         let over = callers.load(Ordering::SeqCst) == 0;
-        let found = item_round(rt, alloc, desk, seats, clock);
+        let found = item_round(rt, alloc, desk, seats, clock, gate);
         if over && !found {
             return;
         }
-        thread::yield_now();
+        rested = rest_unless(rt, found, rested);
     }
     unreachable!()
 }
@@ -68,13 +70,14 @@ pub fn turn_loop<C: Coder, R: Wait>(
     ensures ends { Each (EndsAt [])
         desk.now.codecs.items seats.old.codecs.items seats.new.codecs.items }
 {
+    let mut rested = 0;
     for _ in rt.forever() {
         let over = callers.load(Ordering::SeqCst) == 0;
         let turned = turn_round(rt, desk, seats);
         if over && !turned {
             return;
         }
-        thread::yield_now();
+        rested = rest_unless(rt, turned, rested);
     }
     unreachable!()
 }

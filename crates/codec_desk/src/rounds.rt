@@ -7,12 +7,13 @@ ghost use Rattle.codec_desk.specs.Named.{Calls};
 ghost use Rattle.codec_desk.specs.Rests.{Rested, Served, Stirred, NoItem, NoTask};
 ghost use Rattle.codec_desk.specs.Runs.{EachRunsNone};
 
-use crate::clock::Clock;
 use crate::desk::{Desk, Seats};
-use crate::steps::{turn_once, work_item};
+use crate::items::work_item;
+use crate::steps::turn_once;
 use coder_api::Coder;
 use std::alloc::Global;
 use std::sync::Wait;
+use work_moments::{Clock, Gate};
 
 // Whether something was found, before or now.
 fn found_or(found: bool, step: Option<u64>) -> bool
@@ -25,12 +26,13 @@ fn found_or(found: bool, step: Option<u64>) -> bool
 /// An item of each codec, if one may start, as `work_item` does it. On each codec the seats made an entry, or they looked and no
 /// item could start. False where they made no entry on any, and true where they did on one. Each end is at a moment that the
 /// clock gave.
-pub fn item_round<C: Coder, K: Clock, R: Wait>(
+pub fn item_round<C: Coder, K: Clock, G: Gate, R: Wait>(
     rt: &R,
     alloc: Global,
     desk: &Desk<C>,
     seats: &mut Seats<C>,
     clock: &mut K,
+    gate: &mut G,
 ) -> bool
     requires { SitAt desk.now seats.old }
     ensures sits { SitAt desk.now seats.new }
@@ -48,8 +50,7 @@ pub fn item_round<C: Coder, K: Clock, R: Wait>(
 {
     let mut found = false;
     for codec in 0..desk.codecs.len() {
-        let moment = clock.now();
-        let worked = work_item(rt, alloc, desk, seats, codec, moment);
+        let worked = work_item(rt, alloc, desk, seats, codec, clock, gate);
         found = found_or(found, worked);
     }
     found

@@ -1,12 +1,9 @@
 use Rattle.std.proofs.Common.{◌∙◌, [], ⊎_elim, arith}
-use Rattle.shared_codec.specs.Workers.{WorkTells}
-use Rattle.codec_desk.specs.ClockLaws.{timed_none, timed_then, timed_by}
-use Rattle.codec_desk.specs.EachLaws.{one_so}
-use Rattle.codec_desk.specs.StepLaws.{served_worked, stirred_worked}
+use Rattle.codec_desk.specs.ClockLaws.{timed_none, timed_then}
 use Rattle.codec_desk.specs.DeskLaws.{settled_none, settled_then}
 use Rattle.codec_desk.specs.NamedLaws.{calls_none, calls_then}
-use Rattle.codec_desk.specs.Rests.{Rested, Served, NoItem}
-use Rattle.codec_desk.proofs.Going.{no_item, round_none, round_more, round_all, serve_none, serve_more, serve_all, stir_then, stir_one, item_ends}
+use Rattle.codec_desk.specs.Rests.{NoItem}
+use Rattle.codec_desk.proofs.Going.{round_none, round_more, round_all, serves_none, serves_more, serves_all, stir_then, stir_at}
 use Rattle.codec_desk.proofs.rounds.item_round.Goals as goal
 
 pub loop-codec-init : goal.loop-codec-init
@@ -18,7 +15,7 @@ loop-codec-init g c = record {
   end = c.len-codec-end.ensures ∙ c.args.desk.now.codecs.ok.0;
   below = omega arith;
   rested = λ none. round_none NoItem c.args.desk.now.pool c.args.desk.now.slots.id c.args.desk.now.codecs.items c.args.seats.now.codecs.items c.requires.codecs;
-  served = serve_none NoItem c.args.desk.now.pool c.args.desk.now.slots.id c.args.desk.now.codecs.items c.args.seats.now.codecs.items c.requires.codecs;
+  served = serves_none NoItem c.args.desk.now.pool c.args.desk.now.slots.id c.args.desk.now.codecs.items c.args.seats.now.codecs.items c.requires.codecs;
   stirred = λ yes. absurd cc;
   timed = timed_none c.args.desk.now c.args.seats.now (g.K.Clock.told c.args.clock.now) c.requires;
 }
@@ -45,17 +42,13 @@ loop-codec-preserved g c =
       end = i.end;
       below = omega (arith, lt);
       rested = λ none. (let n = c.found_or-found.ensures.none none in
-          round_more NoItem c.loop-codec.codec c.args.desk.now.codecs.items c.args.seats.now.codecs.items c.loop-codec.seats.codecs.items c.work_item-worked.new.seats.codecs.items (i.rested n.0)
-          (one_so (λ s a b. WorkTells s c.args.desk.now.slots c.now-moment.result c.work_item-worked.result a b c.loop-codec.seats.slots.me.0) (Rested NoItem) (no_item c.args.desk.now.slots c.now-moment.result c.work_item-worked.result c.loop-codec.seats.slots.me.0 n.1) c.loop-codec.codec c.args.desk.now.codecs.items c.loop-codec.seats.codecs.items c.work_item-worked.new.seats.codecs.items e.worked));
-      served = serve_more NoItem c.loop-codec.codec c.args.desk.now.codecs.items c.args.seats.now.codecs.items c.loop-codec.seats.codecs.items c.work_item-worked.new.seats.codecs.items i.served
-          (one_so (λ s a b. WorkTells s c.args.desk.now.slots c.now-moment.result c.work_item-worked.result a b c.loop-codec.seats.slots.me.0) (Served NoItem) (served_worked c.args.desk.now.slots c.now-moment.result c.work_item-worked.result c.loop-codec.seats.slots.me.0) c.loop-codec.codec c.args.desk.now.codecs.items c.loop-codec.seats.codecs.items c.work_item-worked.new.seats.codecs.items e.worked);
+          round_more NoItem c.loop-codec.codec c.args.desk.now.codecs.items c.args.seats.now.codecs.items c.loop-codec.seats.codecs.items c.work_item-worked.new.seats.codecs.items (i.rested n.0) (e.rests n.1));
+      served = serves_more NoItem c.loop-codec.codec c.args.desk.now.codecs.items c.args.seats.now.codecs.items c.loop-codec.seats.codecs.items c.work_item-worked.new.seats.codecs.items i.served e.settled.seats e.served;
       stirred = λ yes. ⊎_elim
           (λ was. stir_then c.args.desk.now.codecs.items c.args.seats.now.codecs.items c.loop-codec.seats.codecs.items c.work_item-worked.new.seats.codecs.items (i.stirred was) e.settled.seats)
-          (λ is. stir_one (λ s a b. WorkTells s c.args.desk.now.slots c.now-moment.result c.work_item-worked.result a b c.loop-codec.seats.slots.me.0) (stirred_worked c.args.desk.now.slots c.now-moment.result c.work_item-worked.result c.loop-codec.seats.slots.me.0 is) c.loop-codec.codec c.args.desk.now.codecs.items c.args.seats.now.codecs.items c.loop-codec.seats.codecs.items c.work_item-worked.new.seats.codecs.items i.settled.seats e.worked)
+          (λ is. stir_at c.loop-codec.codec c.args.desk.now.codecs.items c.args.seats.now.codecs.items c.loop-codec.seats.codecs.items c.work_item-worked.new.seats.codecs.items i.settled.seats (e.stirs is))
           (c.found_or-found.ensures.some yes);
-      timed = timed_then c.args.desk.now c.args.seats.now c.loop-codec.seats c.work_item-worked.new.seats (g.K.Clock.told c.args.clock.now) (g.K.Clock.told c.loop-codec.clock) (g.K.Clock.told c.now-moment.new.self) i.timed
-          (timed_by c.args.desk.now c.loop-codec.seats c.work_item-worked.new.seats (g.K.Clock.told c.loop-codec.clock) (g.K.Clock.told c.now-moment.new.self) c.now-moment.result c.now-moment.ensures
-          (item_ends c.args.desk.now.pool c.args.desk.now.slots.id c.loop-codec.codec c.args.desk.now.slots c.now-moment.result c.work_item-worked.result c.loop-codec.seats.slots.me.0 c.args.desk.now.codecs.items c.loop-codec.seats.codecs.items c.work_item-worked.new.seats.codecs.items i.sits.codecs e.worked));
+      timed = timed_then c.args.desk.now c.args.seats.now c.loop-codec.seats c.work_item-worked.new.seats (g.K.Clock.told c.args.clock.now) (g.K.Clock.told c.loop-codec.clock) (g.K.Clock.told c.work_item-worked.new.clock) i.timed e.timed;
     }
 
 pub returns-clause-sits : goal.returns-clause-sits
@@ -81,7 +74,7 @@ returns-clause-served g c =
     let over = c.loop-codec-test.false in
     let end = i.end in
     let below = i.below in
-    serve_all NoItem c.loop-codec.codec c.args.desk.now.codecs.items c.args.seats.now.codecs.items c.loop-codec.seats.codecs.items (omega (arith, over, end, below)) i.served
+    serves_all NoItem c.loop-codec.codec c.args.desk.now.codecs.items c.args.seats.now.codecs.items c.loop-codec.seats.codecs.items (omega (arith, over, end, below)) i.served
 
 pub returns-clause-stirred : goal.returns-clause-stirred
 returns-clause-stirred g c = c.loop-codec.invariant.stirred

@@ -1,10 +1,11 @@
 use Rattle.std.proofs.Common.{◌≡◌, ◌≤◌, [], length, true, false}
 use Rattle.codec_desk.specs.Clocks.{Timed}
-use Rattle.codec_desk.specs.Desks.{SitAt, Settled}
+use Rattle.codec_desk.specs.Desks.{SitAt, SeesMore, Settled}
 use Rattle.codec_desk.specs.Each.{First, AtSome}
 use Rattle.codec_desk.specs.Named.{Calls}
-use Rattle.codec_desk.specs.Rests.{Rested, Served, Still, Stirred, NoItem}
+use Rattle.codec_desk.specs.Rests.{Rested, Still, Stirred, NoItem}
 use Rattle.codec_desk.specs.Runs.{EachRunsNone}
+use Rattle.codec_desk.proofs.Going.{Serves}
 use Rattle.codec_desk.proofs.rounds.item_round.Given as goal
 
 -- nothing was found so far, or something was
@@ -17,7 +18,7 @@ invariant-loop-codec g l = record {
   end : l.codec-end ≡ length l.fn.desk.codecs.items;
   below : l.codec ≤ l.codec-end;
   rested : l.found ≡ false → First (Rested NoItem) Still l.codec l.fn.desk.codecs.items l.fn.seats.codecs.items l.seats.codecs.items;
-  served : First (Served NoItem) Still l.codec l.fn.desk.codecs.items l.fn.seats.codecs.items l.seats.codecs.items;
+  served : First (Serves NoItem) SeesMore l.codec l.fn.desk.codecs.items l.fn.seats.codecs.items l.seats.codecs.items;
   stirred : l.found ≡ true → AtSome Stirred l.fn.desk.codecs.items l.fn.seats.codecs.items l.seats.codecs.items;
   timed : Timed l.fn.desk l.fn.seats l.seats (g.K.Clock.told l.fn.clock) (g.K.Clock.told l.clock);
 }

@@ -1,12 +1,10 @@
 use Rattle.std.proofs.Common.{◌≡◌, Some, refl, length, vec_len, arith}
 use Rattle.std.specs.Prelude.{slice_get}
 use Rattle.std.proofs.lemmas.Option.{slice_get_read}
-use Rattle.shared_codec.specs.Workers.{WorkTells}
-use Rattle.codec_desk.specs.DeskLaws.{settled_one, sit_after}
-use Rattle.codec_desk.specs.NamedLaws.{worked_calls}
-use Rattle.codec_desk.specs.RunLaws.{none_at, none_worked}
 use Rattle.codec_desk.proofs.Going.{sit_length, sit_get}
-use Rattle.codec_desk.proofs.steps.work_item.Goals as goal
+use Rattle.shared_codec.specs.Keeps.{keeps_none}
+use Rattle.codec_desk.specs.DeskLaws.{settled_one, sit_after}
+use Rattle.codec_desk.proofs.items.start_item.Goals as goal
 
 pub index_mut-requires : goal.index_mut-requires
 index_mut-requires g c =
@@ -15,32 +13,24 @@ index_mut-requires g c =
     let e : vec_len c.args.seats.now.codecs ≡ length c.args.seats.now.codecs.items = c.args.seats.now.codecs.ok.0 in
     omega (arith, l, r, e)
 
-pub work_once-requires-clause-seat : goal.work_once-requires-clause-seat
-work_once-requires-clause-seat g c κs within =
+pub start_once-requires-clause-seat : goal.start_once-requires-clause-seat
+start_once-requires-clause-seat g c κs within =
     let l = sit_length c.args.desk.now c.args.seats.now c.requires.sits in
     let r = c.requires.codec in
     let codec_is : slice_get c.args.desk.now.codecs.items c.args.codec ≡ Some c.index.result.now = slice_get_read _ _ c.args.codec c.index.result.now refl r c.index.ensures in
     let seat_is : slice_get c.args.seats.now.codecs.items c.args.codec ≡ Some c.index_mut.result.now = slice_get_read _ _ c.args.codec c.index_mut.result.now refl (omega (arith, l, r)) c.index_mut.ensures.value in
     (sit_get c.args.desk.now c.args.seats.now c.args.codec c.index.result.now c.index_mut.result.now c.requires.sits codec_is seat_is).idle
 
-pub work_once-requires-clause-slots : goal.work_once-requires-clause-slots
-work_once-requires-clause-slots g c κs within =
+pub start_once-requires-clause-slots : goal.start_once-requires-clause-slots
+start_once-requires-clause-slots g c κs within =
     let l = sit_length c.args.desk.now c.args.seats.now c.requires.sits in
     let r = c.requires.codec in
     let codec_is : slice_get c.args.desk.now.codecs.items c.args.codec ≡ Some c.index.result.now = slice_get_read _ _ c.args.codec c.index.result.now refl r c.index.ensures in
     let seat_is : slice_get c.args.seats.now.codecs.items c.args.codec ≡ Some c.index_mut.result.now = slice_get_read _ _ c.args.codec c.index_mut.result.now refl (omega (arith, l, r)) c.index_mut.ensures.value in
     (sit_get c.args.desk.now c.args.seats.now c.args.codec c.index.result.now c.index_mut.result.now c.requires.sits codec_is seat_is).slots_is
 
-pub work_once-requires-clause-pool : goal.work_once-requires-clause-pool
-work_once-requires-clause-pool g c κs within =
-    let l = sit_length c.args.desk.now c.args.seats.now c.requires.sits in
-    let r = c.requires.codec in
-    let codec_is : slice_get c.args.desk.now.codecs.items c.args.codec ≡ Some c.index.result.now = slice_get_read _ _ c.args.codec c.index.result.now refl r c.index.ensures in
-    let seat_is : slice_get c.args.seats.now.codecs.items c.args.codec ≡ Some c.index_mut.result.now = slice_get_read _ _ c.args.codec c.index_mut.result.now refl (omega (arith, l, r)) c.index_mut.ensures.value in
-    (sit_get c.args.desk.now c.args.seats.now c.args.codec c.index.result.now c.index_mut.result.now c.requires.sits codec_is seat_is).pool_is
-
-pub returns-clause-worked : goal.returns-clause-worked
-returns-clause-worked g c =
+pub returns-clause-begins : goal.returns-clause-begins
+returns-clause-begins g c =
     let l = sit_length c.args.desk.now c.args.seats.now c.requires.sits in
     let r = c.requires.codec in
     let codec_is : slice_get c.args.desk.now.codecs.items c.args.codec ≡ Some c.index.result.now = slice_get_read _ _ c.args.codec c.index.result.now refl r c.index.ensures in
@@ -48,11 +38,11 @@ returns-clause-worked g c =
     record {
       partner = c.index.result.now;
       before = c.index_mut.result.now;
-      after = c.work_once.new.seat;
+      after = c.start_once.new.seat;
       partner_is = codec_is;
       before_is = seat_is;
       after_is = refl;
-      so = c.work_once.ensures.work;
+      so = c.start_once.ensures.begins;
     }
 
 pub returns-clause-settled : goal.returns-clause-settled
@@ -61,8 +51,8 @@ returns-clause-settled g c =
     let r = c.requires.codec in
     let codec_is : slice_get c.args.desk.now.codecs.items c.args.codec ≡ Some c.index.result.now = slice_get_read _ _ c.args.codec c.index.result.now refl r c.index.ensures in
     let seat_is : slice_get c.args.seats.now.codecs.items c.args.codec ≡ Some c.index_mut.result.now = slice_get_read _ _ c.args.codec c.index_mut.result.now refl (omega (arith, l, r)) c.index_mut.ensures.value in
-    settled_one c.args.desk.now c.args.seats.now _ c.args.codec c.index.result.now c.index_mut.result.now c.work_once.new.seat c.dues_add_up.ensures.slots c.dues_add_up.ensures.media c.requires.sits codec_is seat_is refl
-    c.work_once.ensures.kept c.work_once.ensures.kept_slots c.work_once.ensures.kept_pool c.work_once.ensures.settles
+    settled_one c.args.desk.now c.args.seats.now _ c.args.codec c.index.result.now c.index_mut.result.now c.start_once.new.seat c.dues_add_up.ensures.slots c.dues_add_up.ensures.media c.requires.sits codec_is seat_is refl
+    c.start_once.ensures.kept c.start_once.ensures.kept_slots (keeps_none c.args.desk.now.pool c.args.seats.now.pool c.requires.sits.pool.0) (c.start_once.ensures.settles c.args.seats.now.pool.me.0)
 
 pub returns-clause-sits : goal.returns-clause-sits
 returns-clause-sits g c =
@@ -71,13 +61,5 @@ returns-clause-sits g c =
     let codec_is : slice_get c.args.desk.now.codecs.items c.args.codec ≡ Some c.index.result.now = slice_get_read _ _ c.args.codec c.index.result.now refl r c.index.ensures in
     let seat_is : slice_get c.args.seats.now.codecs.items c.args.codec ≡ Some c.index_mut.result.now = slice_get_read _ _ c.args.codec c.index_mut.result.now refl (omega (arith, l, r)) c.index_mut.ensures.value in
     sit_after c.args.desk.now c.args.seats.now _ c.requires.sits
-    (settled_one c.args.desk.now c.args.seats.now _ c.args.codec c.index.result.now c.index_mut.result.now c.work_once.new.seat c.dues_add_up.ensures.slots c.dues_add_up.ensures.media c.requires.sits codec_is seat_is refl
-    c.work_once.ensures.kept c.work_once.ensures.kept_slots c.work_once.ensures.kept_pool c.work_once.ensures.settles) c.work_once.ensures.free_pool c.work_once.ensures.free_slots
-
-pub returns-clause-runs : goal.returns-clause-runs
-returns-clause-runs g c none =
-    none_at (λ s a b. WorkTells s c.args.desk.now.slots c.args.moment c.work_once.result a b c.args.seats.now.slots.me.0) (λ s a b told. none_worked s c.args.desk.now.slots c.args.moment c.work_once.result a b c.args.seats.now.slots.me.0 told) c.args.codec c.args.desk.now.codecs.items c.args.seats.now.codecs.items _ (returns-clause-worked g c) none
-
-pub returns-clause-calls : goal.returns-clause-calls
-returns-clause-calls g c =
-    worked_calls c.args.codec c.args.desk.now.slots c.args.moment c.work_once.result c.args.seats.now.slots.me.0 c.args.desk.now.codecs.items c.args.seats.now.codecs.items _ (returns-clause-worked g c)
+    (settled_one c.args.desk.now c.args.seats.now _ c.args.codec c.index.result.now c.index_mut.result.now c.start_once.new.seat c.dues_add_up.ensures.slots c.dues_add_up.ensures.media c.requires.sits codec_is seat_is refl
+    c.start_once.ensures.kept c.start_once.ensures.kept_slots (keeps_none c.args.desk.now.pool c.args.seats.now.pool c.requires.sits.pool.0) (c.start_once.ensures.settles c.args.seats.now.pool.me.0)) c.requires.sits.pool c.start_once.ensures.free_slots

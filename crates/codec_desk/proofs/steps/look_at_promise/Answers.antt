@@ -1,14 +1,14 @@
 use Rattle.std.proofs.Common.{◌≡◌, Some, refl, length, vec_len, arith}
 use Rattle.std.specs.Prelude.{slice_get}
 use Rattle.std.proofs.lemmas.Option.{slice_get_read}
-use Rattle.shared_codec.specs.Looks.{EndTells}
+use Rattle.shared_codec.specs.Looks.{PromiseTells}
 use Rattle.codec_desk.specs.DeskLaws.{settled_one, sit_after}
 use Rattle.codec_desk.specs.NamedLaws.{looked_calls}
 use Rattle.codec_desk.specs.RunLaws.{none_at, none_seen}
 use Rattle.codec_desk.proofs.Going.{sit_length, sit_get}
 use Rattle.shared_codec.specs.Keeps.{keeps_none}
 use Rattle.shared_codec.specs.Settles.{settles_rest}
-use Rattle.codec_desk.proofs.steps.promise_state.Goals as goal
+use Rattle.codec_desk.proofs.steps.look_at_promise.Goals as goal
 
 pub index_mut-requires : goal.index_mut-requires
 index_mut-requires g c =
@@ -17,8 +17,8 @@ index_mut-requires g c =
     let e : vec_len c.args.seats.now.codecs ≡ length c.args.seats.now.codecs.items = c.args.seats.now.codecs.ok.0 in
     omega (arith, l, r, e)
 
-pub end_of-requires-after_bounds : goal.end_of-requires-after_bounds
-end_of-requires-after_bounds g c κs within =
+pub look_at_promise-requires-after_bounds : goal.look_at_promise-requires-after_bounds
+look_at_promise-requires-after_bounds g c κs within =
     let l = sit_length c.args.desk.now c.args.seats.now c.requires.sits in
     let r = c.requires.codec in
     let codec_is : slice_get c.args.desk.now.codecs.items c.args.codec ≡ Some c.index.result.now = slice_get_read _ _ c.args.codec c.index.result.now refl r c.index.ensures in
@@ -34,11 +34,11 @@ returns-clause-looked g c =
     record {
       partner = c.index.result.now;
       before = c.index_mut.result.now;
-      after = c.end_of.new.seat;
+      after = c.look_at_promise.new.seat;
       partner_is = codec_is;
       before_is = seat_is;
       after_is = refl;
-      so = c.end_of.ensures.end;
+      so = c.look_at_promise.ensures.tells;
     }
 
 pub returns-clause-settled : goal.returns-clause-settled
@@ -47,9 +47,9 @@ returns-clause-settled g c =
     let r = c.requires.codec in
     let codec_is : slice_get c.args.desk.now.codecs.items c.args.codec ≡ Some c.index.result.now = slice_get_read _ _ c.args.codec c.index.result.now refl r c.index.ensures in
     let seat_is : slice_get c.args.seats.now.codecs.items c.args.codec ≡ Some c.index_mut.result.now = slice_get_read _ _ c.args.codec c.index_mut.result.now refl (omega (arith, l, r)) c.index_mut.ensures.value in
-    settled_one c.args.desk.now c.args.seats.now _ c.args.codec c.index.result.now c.index_mut.result.now c.end_of.new.seat c.dues_add_up.ensures.slots c.dues_add_up.ensures.media c.requires.sits codec_is seat_is refl
-    c.end_of.ensures.kept (keeps_none c.args.desk.now.slots.id c.args.seats.now.slots c.requires.sits.slots.0) (keeps_none c.args.desk.now.pool c.args.seats.now.pool c.requires.sits.pool.0)
-    (settles_rest c.index.result.now c.index_mut.result.now.me.0 c.end_of.new.seat.me.0 c.args.seats.now.slots.me.0 c.args.seats.now.pool.me.0 c.end_of.ensures.owes)
+    settled_one c.args.desk.now c.args.seats.now _ c.args.codec c.index.result.now c.index_mut.result.now c.look_at_promise.new.seat c.dues_add_up.ensures.slots c.dues_add_up.ensures.media c.requires.sits codec_is seat_is refl
+    c.look_at_promise.ensures.kept (keeps_none c.args.desk.now.slots.id c.args.seats.now.slots c.requires.sits.slots.0) (keeps_none c.args.desk.now.pool c.args.seats.now.pool c.requires.sits.pool.0)
+    (settles_rest c.index.result.now c.index_mut.result.now.me.0 c.look_at_promise.new.seat.me.0 c.args.seats.now.slots.me.0 c.args.seats.now.pool.me.0 c.look_at_promise.ensures.owes)
 
 pub returns-clause-sits : goal.returns-clause-sits
 returns-clause-sits g c =
@@ -58,14 +58,14 @@ returns-clause-sits g c =
     let codec_is : slice_get c.args.desk.now.codecs.items c.args.codec ≡ Some c.index.result.now = slice_get_read _ _ c.args.codec c.index.result.now refl r c.index.ensures in
     let seat_is : slice_get c.args.seats.now.codecs.items c.args.codec ≡ Some c.index_mut.result.now = slice_get_read _ _ c.args.codec c.index_mut.result.now refl (omega (arith, l, r)) c.index_mut.ensures.value in
     sit_after c.args.desk.now c.args.seats.now _ c.requires.sits
-    (settled_one c.args.desk.now c.args.seats.now _ c.args.codec c.index.result.now c.index_mut.result.now c.end_of.new.seat c.dues_add_up.ensures.slots c.dues_add_up.ensures.media c.requires.sits codec_is seat_is refl
-    c.end_of.ensures.kept (keeps_none c.args.desk.now.slots.id c.args.seats.now.slots c.requires.sits.slots.0) (keeps_none c.args.desk.now.pool c.args.seats.now.pool c.requires.sits.pool.0)
-    (settles_rest c.index.result.now c.index_mut.result.now.me.0 c.end_of.new.seat.me.0 c.args.seats.now.slots.me.0 c.args.seats.now.pool.me.0 c.end_of.ensures.owes)) c.requires.sits.pool c.requires.sits.slots
+    (settled_one c.args.desk.now c.args.seats.now _ c.args.codec c.index.result.now c.index_mut.result.now c.look_at_promise.new.seat c.dues_add_up.ensures.slots c.dues_add_up.ensures.media c.requires.sits codec_is seat_is refl
+    c.look_at_promise.ensures.kept (keeps_none c.args.desk.now.slots.id c.args.seats.now.slots c.requires.sits.slots.0) (keeps_none c.args.desk.now.pool c.args.seats.now.pool c.requires.sits.pool.0)
+    (settles_rest c.index.result.now c.index_mut.result.now.me.0 c.look_at_promise.new.seat.me.0 c.args.seats.now.slots.me.0 c.args.seats.now.pool.me.0 c.look_at_promise.ensures.owes)) c.requires.sits.pool c.requires.sits.slots
 
 pub returns-clause-runs : goal.returns-clause-runs
 returns-clause-runs g c none =
-    none_at (λ s a b. EndTells s c.args.promise c.end_of.result a b) (λ s a b told. none_seen s c.args.promise c.end_of.result a b told) c.args.codec c.args.desk.now.codecs.items c.args.seats.now.codecs.items _ (returns-clause-looked g c) none
+    none_at (λ s a b. PromiseTells s c.args.promise c.look_at_promise.result a b) (λ s a b told. none_seen s c.args.promise c.look_at_promise.result a b told) c.args.codec c.args.desk.now.codecs.items c.args.seats.now.codecs.items _ (returns-clause-looked g c) none
 
 pub returns-clause-calls : goal.returns-clause-calls
 returns-clause-calls g c =
-    looked_calls c.args.codec c.args.promise c.end_of.result c.args.desk.now.codecs.items c.args.seats.now.codecs.items _ (returns-clause-looked g c)
+    looked_calls c.args.codec c.args.promise c.look_at_promise.result c.args.desk.now.codecs.items c.args.seats.now.codecs.items _ (returns-clause-looked g c)
