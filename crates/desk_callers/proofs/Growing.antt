@@ -28,9 +28,10 @@ use Rattle.shared_codec.specs.DueLaws.{owed_then}
 use Rattle.shared_codec.specs.Keeps.{keeps_then}
 use Rattle.shared_codec.specs.Order.{slot_at, asked_at, done_at}
 use Rattle.shared_codec.specs.Shared.{Shared}
+use Rattle.shared_codec.specs.ToldLaws.{ends_then}
 use Rattle.codec_desk.specs.declared.desk.Desk.{Desk}
 use Rattle.codec_desk.specs.declared.desk.Seats.{Seats}
-use Rattle.codec_desk.specs.Desks.{told, SeesMore, InOrderSince, slot_calls, pool_calls}
+use Rattle.codec_desk.specs.Desks.{told, SeesMore, InOrderSince, TellsSince, slot_calls, pool_calls}
 use Rattle.codec_desk.specs.DeskLaws.{map_both, sees_then}
 use Rattle.codec_desk.specs.EachLaws.{each_then}
 use Rattle.desk_threads.specs.Accounts.{is_by_codec, for_codecs}
@@ -145,6 +146,7 @@ module _ {C : Type 0} where
         pool = made_then a.pool.me.0 b.pool.me.0 d.pool.me.0 x.does y.does x.pool y.pool;
         lends = λ t. lends t ∙ ap (λ (l : List PoolEntry). sum_by t (pool_calls desk.codecs.items a.codecs.items ++ l)) (sym (codecs_both x.does y.does));
         order = each_then (InOrderSince x.entries x.does) (InOrderSince y.entries y.does) (InOrderSince (x.entries ++ y.entries) (x.does ++ y.does)) (order_then x.entries y.entries x.does y.does) desk.codecs.items a.codecs.items b.codecs.items d.codecs.items x.order y.order;
+        told = each_then (TellsSince b.slots.me.0.log) (TellsSince d.slots.me.0.log) (TellsSince d.slots.me.0.log) (λ s u v w p q. ends_then b.slots.me.0.log y.made.more d.slots.me.0.log s.codec s.opening u.me.0 v.me.0 w.me.0 y.made.longer p q) desk.codecs.items a.codecs.items b.codecs.items d.codecs.items x.told y.told;
         own = own_both c x.does y.does ∙ (λ i. x.own i ++ y.own i);
         others = λ e other. own_both e x.does y.does ∙ (λ i. x.others e other i ++ y.others e other i);
       }

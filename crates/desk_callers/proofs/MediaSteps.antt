@@ -10,7 +10,6 @@ use Rattle.wc_video.specs.Frames.{content_of}
 use Rattle.wc_video.specs.Layouts.{size_of, layouts_of}
 use Rattle.wc_video.specs.Copies as video
 use Rattle.codec_accounts.specs.Calls as mark
-use Rattle.codec_accounts.specs.Calls.{Mark}
 use Rattle.script_types.specs.declared.script.ScriptData.{ScriptData}
 use Rattle.script_types.specs.declared.options.Options.{Options}
 use Rattle.script_types.specs.declared.steps.MediaStep.{MediaStep}

@@ -19,9 +19,10 @@ use Rattle.shared_codec.specs.Keeps.{Keeps, keeps_none}
 use Rattle.shared_codec.specs.Order.{done_at}
 use Rattle.shared_codec.specs.Shared.{Shared}
 use Rattle.shared_codec.specs.Sums.{dues_of}
+use Rattle.shared_codec.specs.ToldLaws.{ends_none}
 use Rattle.codec_desk.specs.declared.desk.Desk.{Desk}
 use Rattle.codec_desk.specs.declared.desk.Seats.{Seats}
-use Rattle.codec_desk.specs.Desks.{told, entry_for, SitsAt, SeesMore, InOrderSince, SitAt, slot_calls, pool_calls, Settled}
+use Rattle.codec_desk.specs.Desks.{told, entry_for, SitsAt, SeesMore, InOrderSince, TellsSince, SitAt, slot_calls, pool_calls, Settled}
 use Rattle.codec_desk.specs.DeskLaws.{sees_same}
 use Rattle.codec_desk.specs.Each.{Each}
 use Rattle.codec_desk.specs.EachLaws.{each_same}
@@ -112,6 +113,7 @@ module _ {C : Type 0} where
         pool = x.pool;
         lends = λ t. x.lends t ∙ ap (λ (l : List PoolEntry). sum_by t (pool_calls desk.codecs.items a.codecs.items ++ l)) (sym (all_codecs x.does none));
         order = x.order;
+        told = x.told;
         own = none_own c x.does none;
         others = λ d other. none_own d x.does none;
       }
@@ -140,6 +142,10 @@ module _ {C : Type 0} where
         media_order = λ place. sym (none t.codec place);
       }) 0 desk.codecs.items a.codecs.items sits.codecs
 
+  -- no item ended
+  told_rests : (desk : Desk C) (a : Seats C) → SitAt desk a → Each (TellsSince a.slots.me.0.log) desk.codecs.items a.codecs.items a.codecs.items
+  told_rests desk a sits = each_same (SitsAt desk.pool desk.slots.id) (TellsSince a.slots.me.0.log) (λ n t w h. ends_none a.slots.me.0.log t.codec t.opening w.me.0) 0 desk.codecs.items a.codecs.items sits.codecs
+
   -- an entry by a caller's step
   pub settled_own : (desk : Desk C) (a : Seats C) (p : Seat (Option LockedPool) (View PoolEntry)) (who : Who) (last : Bool) (o : PoolOp) → SitAt desk a → Keeps desk.pool a.pool p → MadeSince a.pool.me.0 p.me.0 (entry_of who last o ∷ [])
       → SettledBy who.caller (step_op who.step o ∷ []) desk a (with_pool a p)
@@ -152,6 +158,7 @@ module _ {C : Type 0} where
     pool = since;
     lends = λ t. ap (sum_by t) (sym (append-nil (pool_calls desk.codecs.items a.codecs.items)));
     order = order_rests desk a (entry_of who last o ∷ []) sits (λ k place. refl);
+    told = told_rests desk a sits;
     own = own_here who last o;
     others = own_elsewhere who last o;
   }
@@ -167,6 +174,7 @@ module _ {C : Type 0} where
     pool = since;
     lends = λ t. ap (sum_by t) (sym (append-nil (pool_calls desk.codecs.items a.codecs.items)));
     order = order_rests desk a [] sits (λ k place. refl);
+    told = told_rests desk a sits;
     own = refl;
     others = λ d other. refl;
   }

@@ -42,13 +42,13 @@ module _ {C : Type 0} where
   stay_none desk a sits = stay_settled desk a a (settled_none desk a sits)
 
   -- what an encode's seat has seen more
-  sees_encode : (s : Shared) (u v : Seat (Option (Locked C)) (View Event)) (r : Result ReplyValue NoMemory) (c : View SlotEntry) (p q : View PoolEntry) → Keeps s.id u v → OnOk r (SettlesInPool s u.me.0 v.me.0 p q) → OnErr r (Owes s [] [] u.me.0 v.me.0) → SeesMore s u v
+  sees_encode : (s : Shared) (u v : Seat (Option (Locked C)) (View Event)) (r : Result ReplyValue NoMemory) (c : View SlotEntry) (p q : View PoolEntry) → Keeps s.id u v → OnOk r (SettlesInPool s u.me.0 v.me.0 p q) → OnErr r (Owes s [] [] [] u.me.0 v.me.0) → SeesMore s u v
   sees_encode s u v (Ok r) c p q kept ok err = let x = ok c in record { kept = kept; more = x.owes.slots.more; longer = x.owes.slots.longer }
   sees_encode s u v (Err e) c p q kept ok err = record { kept = kept; more = err.slots.more; longer = err.slots.longer }
 
   -- whatever an encode at one codec answers, the seats stay
   pub stay_encode : (desk : Desk C) (a b : Seats C) (place : ℕ) (s : Shared) (u v : Seat (Option (Locked C)) (View Event)) (r : Result ReplyValue NoMemory) → SitAt desk a → slice_get desk.codecs.items place ≡ Some s → slice_get a.codecs.items place ≡ Some u → b.codecs.items ≡ set a.codecs.items place v → b.slots ≡ a.slots
-      → Keeps s.id u v → Keeps desk.pool a.pool b.pool → OnOk r (SettlesInPool s u.me.0 v.me.0 a.pool.me.0 b.pool.me.0) → OnErr r (Owes s [] [] u.me.0 v.me.0) → StaySeats desk a b
+      → Keeps s.id u v → Keeps desk.pool a.pool b.pool → OnOk r (SettlesInPool s u.me.0 v.me.0 a.pool.me.0 b.pool.me.0) → OnErr r (Owes s [] [] [] u.me.0 v.me.0) → StaySeats desk a b
   stay_encode desk a b place s u v r sits codec seat is slots kept pool ok err = record {
     codecs = subst (λ (l : List (Seat (Option (Locked C)) (View Event))). Each SeesMore desk.codecs.items a.codecs.items l) (sym is)
         (each_one (SitsAt desk.pool desk.slots.id) SeesMore (λ n t w h. sees_same t w h.idle) 0 place desk.codecs.items a.codecs.items s u v sits.codecs codec seat (sees_encode s u v r a.slots.me.0 a.pool.me.0 b.pool.me.0 kept ok err));

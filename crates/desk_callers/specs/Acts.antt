@@ -29,7 +29,7 @@ use Rattle.shared_codec.specs.Keeps.{Keeps}
 use Rattle.shared_codec.specs.Shared.{Shared}
 use Rattle.codec_desk.specs.declared.desk.Desk.{Desk}
 use Rattle.codec_desk.specs.declared.desk.Seats.{Seats}
-use Rattle.codec_desk.specs.Desks.{SeesMore, InOrderSince, slot_calls, pool_calls, Settled}
+use Rattle.codec_desk.specs.Desks.{SeesMore, InOrderSince, TellsSince, slot_calls, pool_calls, Settled}
 use Rattle.codec_desk.specs.Each.{Each}
 use Rattle.desk_threads.specs.Accounts.{for_codecs}
 use Rattle.media_variables.specs.Variables.{Medium, Lendable, handed_of}
@@ -75,6 +75,7 @@ module _ {C : Type 0} where
     pub pool : MadeSince a.pool.me.0 b.pool.me.0 does
     pub lends : SameBag (pool_calls desk.codecs.items b.codecs.items) (pool_calls desk.codecs.items a.codecs.items ++ for_codecs does)
     pub order : Each (InOrderSince entries does) desk.codecs.items a.codecs.items b.codecs.items
+    pub told : Each (TellsSince b.slots.me.0.log) desk.codecs.items a.codecs.items b.codecs.items
     pub own : own_in c does ≡ mine
     pub others : (d : ℕ) → d ≢ c → own_in d does ≡ []
 

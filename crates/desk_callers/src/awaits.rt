@@ -6,7 +6,7 @@ ghost use Rattle.desk_callers.specs.Deeds.{HasEnded};
 ghost use Rattle.desk_callers.specs.Acts.{Helped, SawPromise};
 
 use crate::looks::look_at_promise;
-use codec_desk::{Clock, Desk, Seats, await_helping};
+use codec_desk::{Clock, Desk, Gate, Seats, await_helping};
 use coder_api::Coder;
 use report_text::StepResult;
 use std::alloc::Global;
@@ -14,7 +14,7 @@ use std::sync::Wait;
 
 /// The result of a wait for the promise of the flush at this place of a codec's history: a look that saw it ended. Until then the
 /// caller works and turns on the codec.
-pub fn await_result<C: Coder, K: Clock, R: Wait>(
+pub fn await_result<C: Coder, K: Clock, G: Gate, R: Wait>(
     rt: &R,
     alloc: Global,
     desk: &Desk<C>,
@@ -22,6 +22,7 @@ pub fn await_result<C: Coder, K: Clock, R: Wait>(
     codec: u32,
     place: u64,
     clock: &mut K,
+    gate: &mut G,
 ) -> StepResult
     requires sits { SitAt desk.now seats.old }
     requires codec { codec < length desk.now.codecs.items }
@@ -32,7 +33,7 @@ pub fn await_result<C: Coder, K: Clock, R: Wait>(
     ensures saw { SawPromise desk.now codec place result seats.old seats.new }
     ensures ended { HasEnded result }
 {
-    let _ = await_helping(rt, alloc, desk, seats, codec as usize, place, clock);
+    let _ = await_helping(rt, alloc, desk, seats, codec as usize, place, clock, gate);
     let (length, end) = look_at_promise(rt, desk, seats, codec as usize, place);
     StepResult::Look { codec, length, end }
 }

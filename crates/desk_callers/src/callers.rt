@@ -13,7 +13,7 @@ use crate::encodes::encode_step;
 use crate::media::media_step;
 use crate::steps::plain_step;
 use crate::takes::take_step;
-use codec_desk::{Clock, Desk, Seats};
+use codec_desk::{Clock, Desk, Gate, Seats};
 use coder_api::Coder;
 use media_variables::Variables;
 use report_text::StepResult;
@@ -69,7 +69,7 @@ fn step_on_media<C: Coder, R: Wait>(
 /// A step of a caller, and its result: a call of a codec, a look, a wait, a chunk that is made, or a step on media. `steps` has the
 /// caller's steps, `results` those of the steps before it, and `variables` what these left. Where memory is wanted the variables
 /// are as they were; a take may have been made.
-pub fn caller_step<C: Coder, K: Clock, R: Wait>(
+pub fn caller_step<C: Coder, K: Clock, G: Gate, R: Wait>(
     rt: &R,
     alloc: Global,
     desk: &Desk<C>,
@@ -82,6 +82,7 @@ pub fn caller_step<C: Coder, K: Clock, R: Wait>(
     results: &[StepResult],
     variables: &mut Variables,
     clock: &mut K,
+    gate: &mut G,
 ) -> Result<StepResult, NoMemory>
     requires sits { SitAt desk.now seats.old }
     requires opened { AreOpened script.now desk.now.codecs.items }
@@ -107,6 +108,7 @@ pub fn caller_step<C: Coder, K: Clock, R: Wait>(
         ),
         _ => plain_step(
             rt, alloc, desk, seats, script, media, steps, who, asked, results, variables, clock,
+            gate,
         ),
     }
 }

@@ -9,7 +9,7 @@ ghost use Rattle.order_laws.specs.Sound.{IsSound};
 ghost use Rattle.desk_callers.specs.Acts.{AreOpened, HasDone, StaySeats};
 
 use crate::callers::caller_step;
-use codec_desk::{Clock, Desk, Seats};
+use codec_desk::{Clock, Desk, Gate, Seats};
 use coder_api::Coder;
 use media_variables::Variables;
 use report_text::StepResult;
@@ -22,7 +22,7 @@ use wc_chunk::Chunk;
 
 /// All steps of the caller with this number, one after the other: their results, and what its variables hold then. `media` has the
 /// chunks of the script's chunk files. Where memory is wanted the run is to be given up: the last step may have made its entry.
-pub fn caller_steps<C: Coder, K: Clock, R: Wait>(
+pub fn caller_steps<C: Coder, K: Clock, G: Gate, R: Wait>(
     rt: &R,
     alloc: Global,
     desk: &Desk<C>,
@@ -33,6 +33,7 @@ pub fn caller_steps<C: Coder, K: Clock, R: Wait>(
     results: &mut Vec<StepResult>,
     variables: &mut Variables,
     clock: &mut K,
+    gate: &mut G,
 ) -> Result<(), NoMemory>
     requires sits { SitAt desk.now seats.old }
     requires opened { AreOpened script.now desk.now.codecs.items }
@@ -71,6 +72,7 @@ pub fn caller_steps<C: Coder, K: Clock, R: Wait>(
             results.as_slice(),
             variables,
             clock,
+            gate,
         ) {
             Ok(result) => results.push_reserved(result),
             Err(NoMemory) => return Err(NoMemory),

@@ -14,7 +14,7 @@ ghost use Rattle.desk_callers.specs.Acts.{AreOpened, StaySeats, Did, IsFlushed, 
 use crate::awaits::await_result;
 use crate::calls::call_codec;
 use crate::looks::{promise_result, state_result};
-use codec_desk::{Clock, Desk, Seats};
+use codec_desk::{Clock, Desk, Gate, Seats};
 use codec_model::Call;
 use coder_api::Coder;
 use media_variables::Variables;
@@ -130,7 +130,7 @@ fn poll_step<C: Coder, R: Wait>(
 }
 
 // A wait for the promise of a flush.
-fn await_step<C: Coder, K: Clock, R: Wait>(
+fn await_step<C: Coder, K: Clock, G: Gate, R: Wait>(
     rt: &R,
     alloc: Global,
     desk: &Desk<C>,
@@ -142,6 +142,7 @@ fn await_step<C: Coder, K: Clock, R: Wait>(
     results: &[StepResult],
     variables: &Variables,
     clock: &mut K,
+    gate: &mut G,
 ) -> StepResult
     requires sits { SitAt desk.now seats.old }
     requires opened { AreOpened script.now desk.now.codecs.items }
@@ -154,7 +155,7 @@ fn await_step<C: Coder, K: Clock, R: Wait>(
         Did script.now media.now desk.now who x results.now seats.old seats.new vs vs result }
 {
     let (codec, place) = flush_at(results, promise.step);
-    await_result(rt, alloc, desk, seats, codec, place, clock)
+    await_result(rt, alloc, desk, seats, codec, place, clock, gate)
 }
 
 // A decode of the chunk of a variable, unless that is absent.
@@ -199,7 +200,7 @@ fn decode_step<C: Coder, R: Wait>(
 
 /// A step of a caller that is none on media: a call of a codec, a look, a wait, or a chunk that is made. `steps` has the caller's
 /// steps, and `results` those of the steps before it. Where memory is wanted no entry was made for the step.
-pub fn plain_step<C: Coder, K: Clock, R: Wait>(
+pub fn plain_step<C: Coder, K: Clock, G: Gate, R: Wait>(
     rt: &R,
     alloc: Global,
     desk: &Desk<C>,
@@ -212,6 +213,7 @@ pub fn plain_step<C: Coder, K: Clock, R: Wait>(
     results: &[StepResult],
     variables: &Variables,
     clock: &mut K,
+    gate: &mut G,
 ) -> Result<StepResult, NoMemory>
     requires sits { SitAt desk.now seats.old }
     requires opened { AreOpened script.now desk.now.codecs.items }
@@ -248,6 +250,7 @@ pub fn plain_step<C: Coder, K: Clock, R: Wait>(
         Step::Await { promise } => {
             return Ok(await_step(
                 rt, alloc, desk, seats, script, media, who, promise, results, variables, clock,
+                gate,
             ));
         }
         Step::State { on } => return Ok(state_result(rt, desk, seats, *on)),

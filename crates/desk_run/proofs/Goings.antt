@@ -40,9 +40,9 @@ module _ {C : Type 0} (desk : Desk C) where
   pub no_more : (a b : Seats C) (calls : List Called) → Calls desk [] a b → Named desk calls a → Named desk calls b
   no_more a b calls since was = subst (λ (l : List Called). Named desk l b) (append-nil calls) (named_after desk a b calls [] since was)
 
-module _ {C K : Type 0} (desk : Desk C) where
+module _ {C K G : Type 0} (desk : Desk C) where
   -- the seats of jobs that were done may be joined
-  pub still_join : (told : K → Option (List ℕ)) → OrderStands C → (before after : List (Job C K)) → length after ≡ length before → AllMayJoin desk before → AreReady desk after → AreDone told desk before after → AllMayJoin desk after
+  pub still_join : (told : K → Option (List ℕ)) → OrderStands C → (before after : List (Job C K G)) → length after ≡ length before → AllMayJoin desk before → AreReady desk after → AreDone told desk before after → AllMayJoin desk after
   still_join told stands before after many may ready done i job at =
       let was = get_there before i (subst (λ (n : ℕ). i < n) many (slice_get_within after i job at)) in
       let d = done i was.0 job was.1 at in
@@ -54,11 +54,11 @@ module _ {C K : Type 0} (desk : Desk C) where
       }
 
   -- the same of jobs one after the other
-  abbrev pub EachMayJoin : List (Job C K) → Type 0
+  abbrev pub EachMayJoin : List (Job C K G) → Type 0
   EachMayJoin [] = Unit {0}
   EachMayJoin (j ∷ js) = MayJoin desk j × EachMayJoin js
 
-  pub each_may_join : (jobs : List (Job C K)) → AllMayJoin desk jobs → EachMayJoin jobs
+  pub each_may_join : (jobs : List (Job C K G)) → AllMayJoin desk jobs → EachMayJoin jobs
   each_may_join [] h = tt
   each_may_join (j ∷ js) h = (h 0 j refl, each_may_join js (λ i k at. h (suc i) k at))
 

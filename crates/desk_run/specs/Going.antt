@@ -22,13 +22,13 @@ pub record GoesOn {C : Type 0} (desk : Desk C) (a b : Seats C) : Type 0 where
   pub calls : (calls : List Called) → Named desk calls a → Named desk calls b
   pub runs : EachRunsNone desk.codecs.items a.codecs.items → EachRunsNone desk.codecs.items b.codecs.items
 
-module _ {C K : Type 0} (desk : Desk C) where
+module _ {C K G : Type 0} (desk : Desk C) where
   -- The seats of this job may be joined into others: besides being ready, what they made is in
   -- order, and they made no call of a caller.
-  pub record MayJoin (job : Job C K) : Type 0 where
+  pub record MayJoin (job : Job C K G) : Type 0 where
     pub ready : IsReady desk job
     pub order : InOrder desk job.seats
     pub uncalled : Named desk [] job.seats
 
-  abbrev pub AllMayJoin : List (Job C K) → Type 0
-  AllMayJoin jobs = (i : ℕ) (job : Job C K) → slice_get jobs i ≡ Some job → MayJoin job
+  abbrev pub AllMayJoin : List (Job C K G) → Type 0
+  AllMayJoin jobs = (i : ℕ) (job : Job C K G) → slice_get jobs i ≡ Some job → MayJoin job

@@ -5,7 +5,7 @@ ghost use Rattle.desk_threads.specs.Parts.{HaveParts};
 ghost use Rattle.desk_threads.specs.Rested.{CameToRest};
 ghost use Rattle.desk_run.specs.Going.{GoesOn, MayJoin, AllMayJoin};
 
-use codec_desk::{Clock, Desk, Seats};
+use codec_desk::{Clock, Desk, Gate, Seats, Watch};
 use coder_api::Coder;
 use desk_threads::{Job, Role, join_seats, order_stands, run_jobs, settle_desk, split_seats};
 use std::alloc::Global;
@@ -15,13 +15,13 @@ use std::thread::Threads;
 use wc_base::NoMemory;
 
 // A job with seats that are split off.
-fn make_job<C: Coder, K: Drop>(
+fn make_job<C: Coder, K: Drop, G: Drop>(
     alloc: Global,
     desk: &Desk<C>,
     seats: &mut Seats<C>,
     role: Role,
-    clock: K,
-) -> Result<Job<C, K>, NoMemory>
+    watch: Watch<K, G>,
+) -> Result<Job<C, K, G>, NoMemory>
     requires sits { SitAt desk.now seats.old }
     requires parts { HaveParts seats.old.pool.me.0.parts seats.old }
     requires two { 2 ≤ seats.old.pool.me.0.parts }
@@ -35,31 +35,31 @@ fn make_job<C: Coder, K: Drop>(
     Ok(Job {
         role,
         seats: split_seats(desk, seats, codecs),
-        clock,
+        watch,
     })
 }
 
-// A job for each clock, as far as there is memory: first a turner, and then workers.
-fn make_jobs<C: Coder, K: Drop>(
+// A job for each clock with its gate, as far as there is memory: first a turner, and then workers.
+fn make_jobs<C: Coder, K: Drop, G: Drop>(
     alloc: Global,
     desk: &Desk<C>,
     seats: &mut Seats<C>,
-    clocks: Vec<K>,
-    jobs: &mut Vec<Job<C, K>>,
+    watches: Vec<Watch<K, G>>,
+    jobs: &mut Vec<Job<C, K, G>>,
 )
     requires sits { SitAt desk.now seats.old }
     requires parts { HaveParts seats.old.pool.me.0.parts seats.old }
-    requires few { length clocks.items + 1 ≤ seats.old.pool.me.0.parts }
+    requires few { length watches.items + 1 ≤ seats.old.pool.me.0.parts }
     requires empty { jobs.old.items ≡ [] }
-    requires room { length clocks.items ≤ vec_capacity jobs.old }
+    requires room { length watches.items ≤ vec_capacity jobs.old }
     ensures joins { AllMayJoin desk.now jobs.new.items }
     ensures goes { GoesOn desk.now seats.old seats.new }
     ensures parts { (n : ℕ) × HaveParts n seats.new
         × (n + length jobs.new.items ≡ seats.old.pool.me.0.parts) }
 {
     let mut role = Role::Turner;
-    for clock in clocks {
-        let Ok(job) = make_job(alloc, desk, seats, role, clock) else {
+    for watch in watches {
+        let Ok(job) = make_job(alloc, desk, seats, role, watch) else {
             return;
         };
         jobs.push_reserved(job);
@@ -68,7 +68,11 @@ fn make_jobs<C: Coder, K: Drop>(
 }
 
 // Joins the seats of jobs into these, one after the other. It takes no memory.
-fn join_all<C: Coder, K: Drop>(desk: &Desk<C>, seats: &mut Seats<C>, jobs: Vec<Job<C, K>>)
+fn join_all<C: Coder, K: Drop, G: Drop>(
+    desk: &Desk<C>,
+    seats: &mut Seats<C>,
+    jobs: Vec<Job<C, K, G>>,
+)
     requires sits { SitAt desk.now seats.old }
     requires jobs { AllMayJoin desk.now jobs.items }
     ensures goes { GoesOn desk.now seats.old seats.new }
@@ -84,49 +88,56 @@ fn join_all<C: Coder, K: Drop>(desk: &Desk<C>, seats: &mut Seats<C>, jobs: Vec<J
 
 // A turner and workers, each in a thread of its own where one can be made, as many as there is
 // memory for.
-fn run_threads<C: Coder, K: Clock + Send + Drop, R: Threads + Wait + Sync>(
+fn run_threads<C: Coder, K: Clock + Send + Drop, G: Gate + Send + Drop, R: Threads + Wait + Sync>(
     rt: &R,
     alloc: Global,
     desk: &Desk<C>,
     seats: &mut Seats<C>,
-    clocks: Vec<K>,
+    watches: Vec<Watch<K, G>>,
 )
     requires sits { SitAt desk.now seats.old }
     requires parts { HaveParts seats.old.pool.me.0.parts seats.old }
-    requires few { length clocks.items + 1 ≤ seats.old.pool.me.0.parts }
+    requires few { length watches.items + 1 ≤ seats.old.pool.me.0.parts }
     ensures goes { GoesOn desk.now seats.old seats.new }
     ensures parts { HaveParts seats.old.pool.me.0.parts seats.new }
 {
     order_stands::<C>();
-    let Ok(mut jobs) = Vec::with_capacity(alloc, clocks.len()) else {
+    let Ok(mut jobs) = Vec::with_capacity(alloc, watches.len()) else {
         return;
     };
-    make_jobs(alloc, desk, seats, clocks, &mut jobs);
+    make_jobs(alloc, desk, seats, watches, &mut jobs);
     let callers = AtomicU64::new(0);
     run_jobs(rt, alloc, desk, &callers, jobs.as_mut_slice());
     join_all(desk, seats, jobs);
 }
 
-/// A turner and workers, each in a thread of its own where one can be made, with a clock for each;
+/// A turner and workers, each in a thread of its own where one can be made, with a clock and a gate
+/// for each;
 /// and then all that is left to do. All calls were made before. Where memory is wanted for a
 /// thread's seats, fewer threads work. The seats have all their parts again, and came to rest: they
 /// looked at each codec, no item could start and no task was queued, and they made no entry since.
-pub fn run_workers<C: Coder, K: Clock + Send + Drop, R: Threads + Wait + Sync>(
+pub fn run_workers<
+    C: Coder,
+    K: Clock + Send + Drop,
+    G: Gate + Send + Drop,
+    R: Threads + Wait + Sync,
+>(
     rt: &R,
     alloc: Global,
     desk: &Desk<C>,
     seats: &mut Seats<C>,
-    clocks: Vec<K>,
+    watches: Vec<Watch<K, G>>,
     clock: &mut K,
+    gate: &mut G,
 )
     requires sits { SitAt desk.now seats.old }
     requires parts { HaveParts seats.old.pool.me.0.parts seats.old }
-    requires few { length clocks.items + 1 ≤ seats.old.pool.me.0.parts }
+    requires few { length watches.items + 1 ≤ seats.old.pool.me.0.parts }
     ensures goes { GoesOn desk.now seats.old seats.new }
     ensures parts { HaveParts seats.old.pool.me.0.parts seats.new }
     ensures rested { (a : Seats C) × CameToRest desk.now a seats.new }
 {
     order_stands::<C>();
-    run_threads(rt, alloc, desk, seats, clocks);
-    settle_desk(rt, alloc, desk, seats, clock);
+    run_threads(rt, alloc, desk, seats, watches);
+    settle_desk(rt, alloc, desk, seats, clock, gate);
 }

@@ -21,30 +21,30 @@ module _ {C : Type 0} (desk : Desk C) where
   Found role.Worker a b = Each (Looked NoItem) desk.codecs.items a.codecs.items b.codecs.items
   Found role.Turner a b = Each (Looked NoTask) desk.codecs.items a.codecs.items b.codecs.items
 
-module _ {C K : Type 0} (desk : Desk C) where
+module _ {C K G : Type 0} (desk : Desk C) where
   -- seats at this desk, each with one part, with a balanced account, of which none runs an item of its own
-  pub record IsReady (job : Job C K) : Type 0 where
+  pub record IsReady (job : Job C K G) : Type 0 where
     pub sits : SitAt desk job.seats
     pub one : HaveParts 1 job.seats
     pub balanced : Balanced desk job.seats
     pub runs : EachRunsNone desk.codecs.items job.seats.codecs.items
 
-  abbrev pub AreReady : List (Job C K) → Type 0
-  AreReady jobs = (i : ℕ) (job : Job C K) → slice_get jobs i ≡ Some job → IsReady job
+  abbrev pub AreReady : List (Job C K G) → Type 0
+  AreReady jobs = (i : ℕ) (job : Job C K G) → slice_get jobs i ≡ Some job → IsReady job
 
   -- the seats of none of these jobs made a call of a caller
-  abbrev pub NoneCalled : List (Job C K) → Type 0
-  NoneCalled jobs = (i : ℕ) (job : Job C K) → slice_get jobs i ≡ Some job → Named desk [] job.seats
+  abbrev pub NoneCalled : List (Job C K G) → Type 0
+  NoneCalled jobs = (i : ℕ) (job : Job C K G) → slice_get jobs i ≡ Some job → Named desk [] job.seats
 
 -- of clocks that tell these moments
-module _ {C K : Type 0} (told : K → Option (List ℕ)) (desk : Desk C) where
-  pub record IsDone (was job : Job C K) : Type 0 where
+module _ {C K G : Type 0} (told : K → Option (List ℕ)) (desk : Desk C) where
+  pub record IsDone (was job : Job C K G) : Type 0 where
     pub role : job.role ≡ was.role
     pub settled : Settled desk was.seats job.seats
     pub calls : Calls desk [] was.seats job.seats
     pub found : Found desk was.role was.seats job.seats
-    pub timed : Timed desk was.seats job.seats (told was.clock) (told job.clock)
+    pub timed : Timed desk was.seats job.seats (told was.watch.clock) (told job.watch.clock)
 
   -- each job was done
-  abbrev pub AreDone : List (Job C K) → List (Job C K) → Type 0
-  AreDone before after = (i : ℕ) (was job : Job C K) → slice_get before i ≡ Some was → slice_get after i ≡ Some job → IsDone was job
+  abbrev pub AreDone : List (Job C K G) → List (Job C K G) → Type 0
+  AreDone before after = (i : ℕ) (was job : Job C K G) → slice_get before i ≡ Some was → slice_get after i ≡ Some job → IsDone was job

@@ -1,5 +1,6 @@
--- The order of what a thread made elsewhere: by each entry of a codec, that in which the entry calls for it.
-use Rattle.std.specs.Prelude.{ℕ, ◌≡◌, List, Option}
+-- The order of what a thread made elsewhere: by each entry of a codec, that in which the entry calls for it. What the items tell that it
+-- ended.
+use Rattle.std.specs.Prelude.{ℕ, ◌≡◌, Option}
 use Rattle.std.specs.List.{flat_map}
 use Rattle.atomic_table.specs.declared.shared.Seat.{Seat}
 use Rattle.wc_base.specs.Views.{Log}
@@ -12,7 +13,8 @@ use Rattle.codec_logs.specs.Logs.{opening_track, IsLog}
 use Rattle.shared_codec.specs.Dues.{slot_dues, media_dues}
 use Rattle.shared_codec.specs.Order.{made_by, IsInOrder, slot_at, asked_at, done_at}
 use Rattle.shared_codec.specs.Shared.{Shared}
-use Rattle.shared_codec.specs.Sums.{all_dues}
+use Rattle.shared_codec.specs.Sums.{all_dues, dues_of}
+use Rattle.shared_codec.specs.Told.{end_dues, AreTold}
 use Rattle.codec_desk.specs.declared.desk.Desk.{Desk}
 use Rattle.codec_desk.specs.declared.desk.Seats.{Seats}
 use Rattle.codec_desk.specs.Desks.{SitAt, Settled}
@@ -23,16 +25,20 @@ use Rattle.desk_threads.specs.Parts.{AreSplit, AreTakenIn}
 module _ {S : Type 0} where
   -- Where the seat's log is one of its codec, what these seats made by each entry of the codec is what the entries of the seat call for
   -- by it, in order: in the registry, and in the pool.
+  -- What the items tell that it ended is so by all that the registry's seat has seen.
   abbrev pub IsOrdered : View SlotEntry → View PoolEntry → ℕ → Shared → Seat (Option S) (View Event) → Type 0
   IsOrdered slots pool n s u = IsLog s.codec s.opening u.me.0.log
       → IsInOrder slot_dues slot_at slot_at s.codec s.opening u.me.0 (made_by slots)
       × IsInOrder media_dues asked_at done_at s.codec s.opening u.me.0 (made_by pool)
+      × AreTold (entries_of slots.log) (dues_of end_dues s.codec s.opening u.me.0)
 
-  -- Where this log is one of the codec, these histories have by each entry of the codec what it calls for, in order.
+  -- Where this log is one of the codec, these histories have by each entry of the codec what it calls for, in order. What the items
+  -- tell that it ends is so by the registry's history.
   abbrev pub IsWholeInOrder : Log SlotEntry → Log PoolEntry → ℕ → Shared → Seat (Option S) (View Event) → Type 0
-  IsWholeInOrder slots pool n s u = IsLog s.codec s.opening u.me.0.log → (place : ℕ)
-      → (flat_map (slot_at s.codec place) (all_dues slot_dues s.codec (opening_track s.opening) u.me.0.log) ≡ flat_map (slot_at s.codec place) (entries_of slots))
-      × (flat_map (asked_at s.codec place) (all_dues media_dues s.codec (opening_track s.opening) u.me.0.log) ≡ flat_map (done_at s.codec place) (entries_of pool))
+  IsWholeInOrder slots pool n s u = IsLog s.codec s.opening u.me.0.log
+      → ((place : ℕ) → flat_map (slot_at s.codec place) (all_dues slot_dues s.codec (opening_track s.opening) u.me.0.log) ≡ flat_map (slot_at s.codec place) (entries_of slots))
+      × ((place : ℕ) → flat_map (asked_at s.codec place) (all_dues media_dues s.codec (opening_track s.opening) u.me.0.log) ≡ flat_map (done_at s.codec place) (entries_of pool))
+      × AreTold (entries_of slots) (all_dues end_dues s.codec (opening_track s.opening) u.me.0.log)
 
 module _ {C : Type 0} where
   abbrev pub InOrder : Desk C → Seats C → Type 0

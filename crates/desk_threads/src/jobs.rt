@@ -9,7 +9,7 @@ ghost use Rattle.desk_threads.specs.Longer.{EachSawAll};
 ghost use Rattle.desk_threads.specs.Parts.{HaveParts};
 
 use crate::parts::join_seats;
-use codec_desk::{Clock, Desk, Seats, item_loop, turn_loop};
+use codec_desk::{Clock, Desk, Gate, Seats, Watch, item_loop, turn_loop};
 use coder_api::Coder;
 use std::alloc::Global;
 use std::sync::Wait;
@@ -26,22 +26,22 @@ pub enum Role {
     Turner,
 }
 
-/// The job of one thread: its role, its seats at the desk, and its clock.
+/// The job of one thread: its role, its seats at the desk, and its clock and gate.
 #[derive(Drop)]
-pub struct Job<C: Coder, K> {
+pub struct Job<C: Coder, K, G> {
     pub role: Role,
     pub seats: Seats<C>,
-    pub clock: K,
+    pub watch: Watch<K, G>,
 }
 
 /// Does a job to its end, once a whole round that began with no caller left found nothing. `callers` counts the callers that still
 /// go on, and no clause rests on it. Each end is at a moment that the job's clock gave.
-pub fn run_job<C: Coder, K: Clock, R: Wait>(
+pub fn run_job<C: Coder, K: Clock, G: Gate, R: Wait>(
     rt: &R,
     alloc: Global,
     desk: &Desk<C>,
     callers: &AtomicU64,
-    job: &mut Job<C, K>,
+    job: &mut Job<C, K, G>,
 )
     requires { IsReady desk.now job.old }
     ensures ready { IsReady desk.now job.new }
@@ -49,7 +49,16 @@ pub fn run_job<C: Coder, K: Clock, R: Wait>(
 {
     match job.role {
         Role::Worker => {
-            item_loop(rt, alloc, desk, &mut job.seats, callers, &mut job.clock);
+            let watch = &mut job.watch;
+            item_loop(
+                rt,
+                alloc,
+                desk,
+                &mut job.seats,
+                callers,
+                &mut watch.clock,
+                &mut watch.gate,
+            );
         }
         Role::Turner => turn_loop(rt, desk, &mut job.seats, callers),
     }
@@ -57,12 +66,12 @@ pub fn run_job<C: Coder, K: Clock, R: Wait>(
 
 /// Does all jobs, each in a thread of its own where one can be made, and else one after the other. Where a thread cannot be made,
 /// std does the last half of the list first, so jobs that others wait for stand last. It takes no memory of its own.
-pub fn run_jobs<C: Coder, K: Clock + Send, R: Threads + Wait + Sync>(
+pub fn run_jobs<C: Coder, K: Clock + Send, G: Gate + Send, R: Threads + Wait + Sync>(
     rt: &R,
     alloc: Global,
     desk: &Desk<C>,
     callers: &AtomicU64,
-    jobs: &mut [Job<C, K>],
+    jobs: &mut [Job<C, K, G>],
 )
     requires { AreReady desk.now jobs.old }
     ensures many { length jobs.new ≡ length jobs.old }
@@ -73,7 +82,7 @@ pub fn run_jobs<C: Coder, K: Clock + Send, R: Threads + Wait + Sync>(
         return;
     }
     let threads = jobs.len();
-    let run = move |_place: usize, job: &mut Job<C, K>|
+    let run = move |_place: usize, job: &mut Job<C, K, G>|
         requires { IsReady desk.now job.now }
         ensures ready { IsReady desk.entry.now job.exit.now }
         ensures done { IsDone K.told desk.entry.now job.entry.now job.exit.now }
@@ -82,7 +91,11 @@ pub fn run_jobs<C: Coder, K: Clock + Send, R: Threads + Wait + Sync>(
 }
 
 /// Joins the seats of jobs into these, one after the other. It takes no memory.
-pub fn join_jobs<C: Coder, K: Drop>(desk: &Desk<C>, seats: &mut Seats<C>, jobs: Vec<Job<C, K>>)
+pub fn join_jobs<C: Coder, K: Drop, G: Drop>(
+    desk: &Desk<C>,
+    seats: &mut Seats<C>,
+    jobs: Vec<Job<C, K, G>>,
+)
     requires sits { SitAt desk.now seats.old }
     requires jobs { AreReady desk.now jobs.items }
     ensures sits { SitAt desk.now seats.new }

@@ -6,7 +6,7 @@ ghost use Rattle.codec_desk.specs.Named.{Calls};
 ghost use Rattle.codec_desk.specs.Runs.{EachRunsNone};
 ghost use Rattle.desk_threads.specs.Rested.{CameToRest};
 
-use codec_desk::{Clock, Desk, Seats, item_round, turn_round};
+use codec_desk::{Clock, Desk, Gate, Seats, item_round, turn_round};
 use coder_api::Coder;
 use std::alloc::Global;
 use std::sync::Wait;
@@ -20,12 +20,13 @@ fn either(worked: bool, turned: bool) -> bool
 
 /// Rounds of work and of turns over all codecs, until one of each finds nothing. Once no other thread has a seat, all is done.
 /// Each end is at a moment that the clock gave.
-pub fn settle_desk<C: Coder, K: Clock, R: Wait>(
+pub fn settle_desk<C: Coder, K: Clock, G: Gate, R: Wait>(
     rt: &R,
     alloc: Global,
     desk: &Desk<C>,
     seats: &mut Seats<C>,
     clock: &mut K,
+    gate: &mut G,
 )
     requires { SitAt desk.now seats.old }
     ensures sits { SitAt desk.now seats.new }
@@ -37,7 +38,7 @@ pub fn settle_desk<C: Coder, K: Clock, R: Wait>(
     ensures timed { Timed desk.now seats.old seats.new (K.told clock.old) (K.told clock.new) }
 {
     for _ in rt.forever() {
-        let worked = item_round(rt, alloc, desk, seats, clock);
+        let worked = item_round(rt, alloc, desk, seats, clock, gate);
         let turned = turn_round(rt, desk, seats);
         if !either(worked, turned) {
             return;

@@ -1,5 +1,5 @@
 -- What the log of one codec calls for in the registry, by its events.
-use Rattle.std.proofs.Common.{ℕ, suc, ◌+◌, ◌-◌, ◌≡◌, ◌≤◌, Bool, true, false, cond, List, [], ◌∷◌, ◌++◌, map, length, take, Option, Some, None, is_some, refl, ap, sym, subst, ◌∙◌, arith, append_assoc, append-nil, length-append}
+use Rattle.std.proofs.Common.{ℕ, ◌+◌, ◌-◌, ◌≡◌, ◌≤◌, Bool, true, false, cond, List, [], ◌∷◌, ◌++◌, map, length, take, Option, Some, None, is_some, refl, ap, sym, subst, ◌∙◌, arith, append_assoc, append-nil, length-append}
 use Rattle.std.specs.Prelude.{slice_get, option_and_then}
 use Rattle.std.specs.List.{flat_map, sum_by}
 use Rattle.std.proofs.lemmas.List.Concat.{flat_map-append}
@@ -20,7 +20,7 @@ use Rattle.codec_model.specs.Held.{is_removal}
 use Rattle.codec_model.specs.Replay.{State}
 use Rattle.codec_accounts.specs.ListLaws.{get_end, get_kept}
 use Rattle.codec_accounts.specs.Owed.{owed}
-use Rattle.codec_accounts.specs.Boxes.{Act, Asks, Begins, Ends, Removes, Other, asks_of, asks_in, Event as BoxEvent, Holds, holds_by, holds_after, holds_after_end, holds_removed, newer, box_with, gets, gets_since, lets_go, lets_go_by, acts_in, MayCome}
+use Rattle.codec_accounts.specs.Boxes.{Act, Asks, Begins, Ends, Removes, Other, asks_of, asks_in, Event as BoxEvent, Holds, holds_by, holds_after, holds_after_end, holds_removed, newer, box_with, gets, gets_since, lets_go_by, acts_in, MayCome}
 use Rattle.codec_accounts.specs.Boxes as boxes
 use Rattle.codec_accounts.specs.BagsLaws.{weigh_append}
 use Rattle.codec_accounts.specs.Registry.{Box, BoxOut, Return, acquire_of, out_by, outs, out_at, back_at, gets_due, lets_go_due}

@@ -1,8 +1,6 @@
 -- What codecs' logs call for in the pool, entry by entry.
-use Rattle.std.proofs.Common.{ℕ, zero, suc, ◌+◌, ◌≡◌, ◌≢◌, ◌≤◌, ◌<◌, ◌==◌, inl, inr, Bool, false, cond, List, [], ◌∷◌, ◌++◌, ◌⊎◌, map, length, take, Option, Some, None, refl, ap, sym, subst, ◌∙◌, arith, append-nil, eq-eqb}
+use Rattle.std.proofs.Common.{ℕ, zero, suc, ◌+◌, ◌≡◌, ◌≤◌, ◌<◌, inl, inr, Bool, false, cond, List, [], ◌∷◌, ◌++◌, ◌⊎◌, map, length, take, Option, Some, None, refl, ap, sym, subst, ◌∙◌, arith, append-nil, eq-eqb}
 use Rattle.std.specs.Prelude.{slice_get, option_and_then, unwrap_or}
-use Rattle.std.proofs.lemmas.Bool.{ne_eqb}
-use Rattle.std.proofs.lemmas.List.Concat.{flat_map-append}
 use Rattle.wc_base.specs.Views.{Log}
 use Rattle.wc_base.specs.declared.seat.Passage.TheVariants.{Made, Look}
 use Rattle.wc_pool.specs.declared.entry.PoolEntry.{PoolEntry}

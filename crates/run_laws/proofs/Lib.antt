@@ -5,3 +5,4 @@ mod Trying
 mod Together
 mod Lending
 mod Fitting
+mod Telling

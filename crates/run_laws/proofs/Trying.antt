@@ -1,7 +1,7 @@
 -- What the log of one codec says of the acquires of its items.
-use Rattle.std.proofs.Common.{ℕ, zero, suc, ◌+◌, ◌≡◌, ◌≢◌, ◌≤◌, ◌<◌, ◌==◌, ◌&&◌, inl, inr, Bool, true, false, cond, List, [], ◌∷◌, ◌++◌, ◌⊎◌, map, length, take, Option, Some, None, is_some, refl, ap, sym, subst, ◌∙◌, arith, append_assoc, append-nil, length-append, eq-eqb}
+use Rattle.std.proofs.Common.{ℕ, zero, suc, ◌+◌, ◌≡◌, ◌≢◌, ◌≤◌, ◌<◌, inl, inr, Bool, true, false, cond, List, [], ◌∷◌, ◌++◌, ◌⊎◌, map, length, take, Option, Some, None, is_some, refl, ap, sym, subst, ◌∙◌, arith, append_assoc, append-nil, length-append, eq-eqb}
 use Rattle.std.specs.Prelude.{slice_get}
-use Rattle.std.proofs.lemmas.Bool.{cases_eq, ne_eqb}
+use Rattle.std.proofs.lemmas.Bool.{cases_eq}
 use Rattle.std.proofs.lemmas.List.Concat.{flat_map-append}
 use Rattle.std.proofs.lemmas.List.{take-append-le, take_all}
 use Rattle.wc_base.specs.declared.who.By.{By}
@@ -60,7 +60,7 @@ event_tries c k e x =
 
 -- ---- acquires of an item
 
-abbrev ops : List SlotEntry → List SlotOp
+abbrev pub ops : List SlotEntry → List SlotOp
 ops es = map (λ a. a.op) es
 
 some_is : {X : Type 0} (a b : X) → Some a ≡ Some b → a ≡ b
@@ -145,7 +145,7 @@ start_more l a n h = start_snoc 0 n None l a (omega (arith, h))
 longer_by : (l : List Act) (a : Act) (n : ℕ) → length l ≡ n → length (l ++ a ∷ []) ≡ suc n
 longer_by l a n h = let e = length-append l (a ∷ []) in omega (arith, e, h)
 
-no_true : {X : Type 0} → false ≡ true → X
+pub no_true : {X : Type 0} → false ≡ true → X
 no_true h = absurd cc
 
 -- an entry that is no start and no end, of an item that stays at work as it was
@@ -204,10 +204,10 @@ work_more l x s n e w = work_by l x s (act_in e x) (box_of (acquires_of e.acquir
 
 -- ---- acquires of a whole log
 
-abbrev tries_in : ℕ → ℕ → Track → Log Event → List SlotOp
+abbrev pub tries_in : ℕ → ℕ → Track → Log Event → List SlotOp
 tries_in k p x log = tries_by (by.Codec k p) (all_dues slot_dues k x log)
 
-tries_split : (k p n : ℕ) (e : Event) (x : Track) (ps : Log Event) → tries_in k p x ((n, Made e) ∷ ps) ≡ tries_by (by.Codec k p) (acquires_of e.acquires) ++ tries_in k p (track_made n e x) ps
+pub tries_split : (k p n : ℕ) (e : Event) (x : Track) (ps : Log Event) → tries_in k p x ((n, Made e) ∷ ps) ≡ tries_by (by.Codec k p) (acquires_of e.acquires) ++ tries_in k p (track_made n e x) ps
 tries_split k p n e x ps =
     tries_append (by.Codec k p) (slot_dues k e x) (all_dues slot_dues k (track_made n e x) ps)
     ∙ ap (λ (l : List SlotOp). l ++ tries_in k p (track_made n e x) ps) (event_tries (by.Codec k p) k e x)
@@ -235,7 +235,7 @@ waits_after Removes b h s p lt other waits = by h.runs waits
     by false w = other w
 waits_after Other b h s p lt other waits = other waits
 
-longer_place : (l : List Act) (x : Track) (s : Started) (n : ℕ) (e : Event) → Working l x s → (track_made n e x).holds.place ≡ suc x.holds.place
+pub longer_place : (l : List Act) (x : Track) (s : Started) (n : ℕ) (e : Event) → Working l x s → (track_made n e x).holds.place ≡ suc x.holds.place
 longer_place l x s n e w =
     let a = w.long in
     let b = (work_more l x s n e w).long in
@@ -490,7 +490,7 @@ told_of : (slots : List SlotEntry) (cause : By) (asked : Option CoderId) (told :
 told_of slots cause asked told e epoch number moment o is h = (subst (EntryIsTold slots cause asked told) is h).1
 
 -- of the next item at work nothing was tried yet
-next_here : (a : Act) (b : Option Box) (h : Holds Box) (s : Started) (so_far : ℕ → List SlotOp) → ((p : ℕ) → h.place ≤ p → so_far p ≡ []) → (h.runs ≡ true → so_far s.place ≡ []) → (holds_by a b h).runs ≡ true → so_far (started_by a h.place s).place ≡ []
+pub next_here : (a : Act) (b : Option Box) (h : Holds Box) (s : Started) (so_far : ℕ → List SlotOp) → ((p : ℕ) → h.place ≤ p → so_far p ≡ []) → (h.runs ≡ true → so_far s.place ≡ []) → (holds_by a b h).runs ≡ true → so_far (started_by a h.place s).place ≡ []
 next_here (Asks id) b h s so_far later here runs = later h.place (omega arith)
 next_here Begins b h s so_far later here runs = later h.place (omega arith)
 next_here Ends b h s so_far later here runs = cases h.old runs
@@ -505,7 +505,7 @@ next_here Removes b h s so_far later here runs = cases h.runs runs
     cases false r = here r
 next_here Other b h s so_far later here runs = here runs
 
-next_tries : (k p : ℕ) (a : Act) (b : Option Box) (es : List SlotEntry) (h : Holds Box) → Tells k a es h → (holds_by a b h).runs ≡ true → tries_by (by.Codec k p) es ≡ []
+pub next_tries : (k p : ℕ) (a : Act) (b : Option Box) (es : List SlotEntry) (h : Holds Box) → Tells k a es h → (holds_by a b h).runs ≡ true → tries_by (by.Codec k p) es ≡ []
 next_tries k p (Asks id) b es h tells runs = none_tries (by.Codec k p) es tells
 next_tries k p Begins b es h tells runs = none_tries (by.Codec k p) es tells
 next_tries k p Ends b es h tells runs = cases h.old runs

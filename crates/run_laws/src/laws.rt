@@ -2,12 +2,17 @@
 ghost use Rattle.std.specs.Prelude.{ℕ, ◌≡◌, ◌<◌, List, length};
 ghost use Rattle.codec_accounts.specs.Codec.{state_after};
 ghost use Rattle.codec_accounts.specs.Owed.{at};
-ghost use Rattle.codec_logs.specs.Logs.{IsLog};
+ghost use Rattle.codec_logs.specs.Logs.{IsLog, opening_track};
 ghost use Rattle.codec_logs.specs.declared.event.Event.{Event};
 ghost use Rattle.codec_model.specs.declared.entry.Opening.{Opening};
 ghost use Rattle.coder_api.specs.declared.slot.SlotEntry.{SlotEntry};
 ghost use Rattle.run_laws.specs.Fits.{AreAtRest, FitsAsTried, ThreadsMade};
-ghost use Rattle.run_laws.specs.Paid.{RegistryIsPaid, histories_of};
+ghost use Rattle.run_laws.specs.Paid.{RegistryIsPaid, by_cause, histories_of};
+ghost use Rattle.run_laws.specs.Told.{LogTellsEnds};
+ghost use Rattle.shared_codec.specs.Dues.{slot_dues};
+ghost use Rattle.shared_codec.specs.Sums.{all_dues};
+ghost use Rattle.shared_codec.specs.Told.{AreTold, end_dues};
+ghost use Rattle.wc_base.specs.declared.who.By.TheVariants as by;
 ghost use Rattle.run_laws.specs.PoolPaid.{CodecsArePaid, PoolIsPaid};
 ghost use Rattle.run_laws.specs.Quiet.{IsAtRest};
 ghost use Rattle.run_laws.specs.Tries.{BoxesAreTried};
@@ -25,6 +30,17 @@ pub fn boxes_are_tried()
         (slots : List SlotEntry)
         → RegistryIsPaid made opening logs slots
         → BoxesAreTried made opening (histories_of logs) slots }
+{}
+
+/// A law on the log of a codec by whose entries a registry's history has what it calls for, in order. Where what its ends say is so by
+/// that history, they tell how all acquires of their items went.
+pub fn ends_are_told()
+    ensures { (k : ℕ) (opening : Opening) (log : Log Event) (slots : List SlotEntry)
+        → IsLog k opening log
+        → AreTold slots (all_dues end_dues k (opening_track opening) log)
+        → ((place : ℕ) → by_cause (by.Codec k place) (all_dues slot_dues k (opening_track opening) log)
+        ≡ by_cause (by.Codec k place) slots)
+        → LogTellsEnds k opening slots log }
 {}
 
 /// A law: where a pool's history has, by each entry of a codec, what that codec's log calls for by it, it has what the codec's

@@ -21,6 +21,7 @@ use Rattle.shared_codec.specs.Dues.{slot_dues, media_dues, call_dues}
 use Rattle.shared_codec.specs.Order.{slot_at, asked_at, done_at}
 use Rattle.shared_codec.specs.Shared.{Shared, FinishedAs}
 use Rattle.shared_codec.specs.Sums.{all_dues}
+use Rattle.shared_codec.specs.Told.{end_dues, AreTold}
 use Rattle.codec_desk.specs.Desks.{SitsAt}
 use Rattle.codec_desk.specs.Each.{Pairs}
 use Rattle.desk_threads.specs.Accounts.{all_slot_calls, all_calls}
@@ -183,11 +184,14 @@ module _ {S : Type 0} where
 
     pub slots_in_order : (k place : ℕ) → k < length (logs_in us) → flat_map (slot_at k place) (all_dues slot_dues k (opening_track (opening_in cs k)) (at k (logs_in us))) ≡ flat_map (slot_at k place) (entries_of sl)
     slots_in_order k place lt =
-        as_numbered (λ n o l. flat_map (slot_at n place) (all_dues slot_dues n (opening_track o) l) ≡ flat_map (slot_at n place) (entries_of sl)) k lt ((here k lt).so.whole (here k lt).so.legal place).0
+        as_numbered (λ n o l. flat_map (slot_at n place) (all_dues slot_dues n (opening_track o) l) ≡ flat_map (slot_at n place) (entries_of sl)) k lt (((here k lt).so.whole (here k lt).so.legal).0 place)
 
     pub media_in_order : (k place : ℕ) → k < length (logs_in us) → flat_map (asked_at k place) (all_dues media_dues k (opening_track (opening_in cs k)) (at k (logs_in us))) ≡ flat_map (done_at k place) (entries_of pl)
     media_in_order k place lt =
-        as_numbered (λ n o l. flat_map (asked_at n place) (all_dues media_dues n (opening_track o) l) ≡ flat_map (done_at n place) (entries_of pl)) k lt ((here k lt).so.whole (here k lt).so.legal place).1
+        as_numbered (λ n o l. flat_map (asked_at n place) (all_dues media_dues n (opening_track o) l) ≡ flat_map (done_at n place) (entries_of pl)) k lt (((here k lt).so.whole (here k lt).so.legal).1 place)
+
+    pub ends_told : (k : ℕ) → k < length (logs_in us) → AreTold (entries_of sl) (all_dues end_dues k (opening_track (opening_in cs k)) (at k (logs_in us)))
+    ends_told k lt = as_numbered (λ n o l. AreTold (entries_of sl) (all_dues end_dues n (opening_track o) l)) k lt ((here k lt).so.whole (here k lt).so.legal).2
 
 -- ---- all codecs together
 

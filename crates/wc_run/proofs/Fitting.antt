@@ -9,7 +9,6 @@ use Rattle.wc_base.specs.declared.who.Who.{Who}
 use Rattle.wc_config.specs.declared.codec.CoderId.{CoderId}
 use Rattle.wc_chunk.specs.declared.chunk.Chunk.{Chunk}
 use Rattle.wc_pool.specs.declared.entry.PoolEntry.{PoolEntry}
-use Rattle.codec_model.specs.declared.entry.Opening.{Opening}
 use Rattle.codec_model.specs.declared.entry.Call.{Call}
 use Rattle.codec_model.specs.declared.entry.Entry.{Entry}
 use Rattle.codec_model.specs.declared.entry.Entry.TheVariants as entry
@@ -25,21 +24,18 @@ use Rattle.script_types.specs.declared.script.ScriptData.{ScriptData}
 use Rattle.script_types.specs.declared.steps.Step.{Step}
 use Rattle.report_text.specs.declared.result.StepResult.{StepResult}
 use Rattle.media_variables.specs.Variables.{Medium, Came}
-use Rattle.media_accounts.specs.Accounts.{step_by, own_in, own_of, came_in, lent_at}
+use Rattle.media_accounts.specs.Accounts.{step_by, own_in, own_of, came_in}
 use Rattle.run_model.specs.Recorded.{Recorded, opening_at, steps_of}
 use Rattle.run_model.specs.Fits.{recorded_of, result_in, entry_in, step_in, mark_of, marks_of, variables_at, came_at, brought_to, made_steps, HasArguments, IsLocalAnswer, IsResultOf, LookShows, LooksAreIn, LocalsAreIn}
 use Rattle.run_model.specs.FitsLaws.{made_at}
 use Rattle.run_model.specs.declared.run.CallerTrace.{CallerTrace}
 use Rattle.run_model.specs.declared.run.Run.{Run}
-use Rattle.call_laws.specs.CallLaws.{calls_are_in, arguments_are_in}
 use Rattle.call_laws.specs.Callers.{all_named, all_told, StandsGiven, CallersAnswer}
 use Rattle.run_laws.specs.Fits.{ThreadsMade}
 use Rattle.run_laws.specs.Paid.{histories_of}
-use Rattle.run_laws.specs.PoolPaid.{CodecsArePaid, PoolIsPaid}
-use Rattle.run_laws.specs.Told.{LogTellsEnds}
+use Rattle.run_laws.specs.PoolPaid.{PoolIsPaid}
 use Rattle.desk_callers.specs.Deeds.{Deed, StandsAs, AreDeeds, came_of, owns_of, results_of, variables_after}
 use Rattle.wc_run.specs.Acted.{HaveActed}
-use Rattle.wc_run.specs.Fits.{CallersFit}
 use Rattle.wc_run.specs.Made.{IsMade}
 use Rattle.wc_run.proofs.Acts.{IsDeedIn, MadeAt, deed_in, made_there}
 use Rattle.wc_run.proofs.CallsTold.{AllTell, TellCalls, calls_told}
@@ -201,33 +197,16 @@ module _ (s : ScriptData) (media : List (List Chunk)) (made : List CoderId) (run
   pool_paid : PoolIsPaid (opening_at s) x.logs run.pool
   pool_paid = record { logs_are = x.logs_are; causes = λ k place. (x.media_causes k place ∙ done_by_entry k place run.pool) }
 
-  pub threads_made : ((k : ℕ) → k < length x.logs → LogTellsEnds k (opening_at s k) run.slots (at k x.logs)) → OwnsAre s media x.deeds run.pool → ThreadsMade s media made x.logs (recorded_of run)
-  threads_made told own =
-      let all = all_did own in
+  pub threads_made : ThreadsMade s media made x.logs (recorded_of run)
+  threads_made =
+      let all = all_did x.own in
       record {
         codecs = x.codecs;
-        registry = record { legal = x.slots_are_legal; logs_are = x.logs_are; called = x.slots_called; causes = x.slot_causes; told = told };
+        registry = record { legal = x.slots_are_legal; logs_are = x.logs_are; called = x.slots_called; causes = x.slot_causes; told = x.told };
         pool_is_legal = x.pool_is_legal;
         pool = pool_paid;
         own = all.own;
         callers = all.callers;
         looks = all.looks;
         locals = all.locals;
-      }
-
-  -- all but the boxes, by a law of run_laws
-  pub callers_fit : ((opening : ℕ → Opening) (logs : List (Log Event)) (pool : List PoolEntry) → PoolIsPaid opening logs pool → CodecsArePaid opening logs pool) → OwnsAre s media x.deeds run.pool → CallersFit s media (recorded_of run)
-  callers_fit law own =
-      let w : Recorded = recorded_of run in
-      let all = all_did own in
-      record {
-        calls = calls_are_in s media w all.callers;
-        looks = all.looks;
-        arguments = arguments_are_in s media w all.callers;
-        locals = all.locals;
-        accounted = record {
-          legal = x.pool_is_legal;
-          own = all.own;
-          codecs = λ k place. (law (opening_at s) x.logs run.pool pool_paid k place ∙ ap (λ (hs : List (List Entry)). lent_at (opening_at s k) (at k hs) place) (sym x.codecs));
-        };
       }

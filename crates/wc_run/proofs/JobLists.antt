@@ -29,17 +29,17 @@ module _ {C : Type 0} (desk : Desk C) where
 
 -- ---- jobs that were done
 
-module _ {C K : Type 0} (s : ScriptData) (media : List (List Chunk)) (desk : Desk C) where
-  pub all_ready : (before after : List (Job C K)) → length after ≡ length before → AreDone s media desk before after → AreReady desk after
+module _ {C K G : Type 0} (s : ScriptData) (media : List (List Chunk)) (desk : Desk C) where
+  pub all_ready : (before after : List (Job C K G)) → length after ≡ length before → AreDone s media desk before after → AreReady desk after
   all_ready before after many done i job at =
       let was = get_there before i (subst (λ (n : ℕ). i < n) many (slice_get_within after i job at)) in
       (done i was.0 job was.1 at).ready
 
-  pub all_done : (workers : ℕ) (before after : List (Job C K)) → length after ≡ length before → AreDone s media desk before after → ((i : ℕ) (job : Job C K) → slice_get before i ≡ Some job → job.role ≡ role_at workers i) → AllDone s media desk workers after
+  pub all_done : (workers : ℕ) (before after : List (Job C K G)) → length after ≡ length before → AreDone s media desk before after → ((i : ℕ) (job : Job C K G) → slice_get before i ≡ Some job → job.role ≡ role_at workers i) → AllDone s media desk workers after
   all_done workers before after many done roles i job at none =
       let was = get_there before i (subst (λ (n : ℕ). i < n) many (slice_get_within after i job at)) in
       subst (λ (r : Role). HasDone s media desk r job) (roles i was.0 was.1) ((done i was.0 job was.1 at).done none)
 
-module _ {C K : Type 0} (desk : Desk C) where
-  pub new_ready : (jobs : List (Job C K)) → AreNew desk jobs → AreReady desk jobs
+module _ {C K G : Type 0} (desk : Desk C) where
+  pub new_ready : (jobs : List (Job C K G)) → AreNew desk jobs → AreReady desk jobs
   new_ready jobs new i job at = (new i job at).ready

@@ -10,17 +10,21 @@ use Rattle.wc_pool.specs.declared.entry.PoolEntry.{PoolEntry}
 use Rattle.coder_api.specs.declared.slot.SlotEntry.{SlotEntry}
 use Rattle.codec_model.specs.declared.entry.Opening.{Opening}
 use Rattle.codec_accounts.specs.Bags.{SameBag}
+use Rattle.seat_lock.specs.Logs.{entries_of}
 use Rattle.seat_lock.specs.Since.{MadeSince}
 use Rattle.codec_logs.specs.declared.event.Event.{Event}
 use Rattle.codec_logs.specs.Logs.{Track, opening_track, track_by, Follows, IsLog}
 use Rattle.shared_codec.specs.Dues.{slot_dues, media_dues}
 use Rattle.shared_codec.specs.Order.{made_by, IsInOrder, slot_at, asked_at, done_at, SlotOrderIsKept, MediaOrderIsKept}
 use Rattle.shared_codec.specs.Shared.{Shared}
-use Rattle.shared_codec.specs.Sums.{DuesAddUp}
+use Rattle.shared_codec.specs.Sums.{DuesAddUp, dues_of}
+use Rattle.shared_codec.specs.SumLaws.{dues_add_up}
+use Rattle.shared_codec.specs.Told.{Ending, end_dues, AreTold}
+use Rattle.shared_codec.specs.ToldLaws.{told_later, told_both}
 use Rattle.codec_desk.specs.declared.desk.Desk.{Desk}
 use Rattle.codec_desk.specs.declared.desk.Seats.{Seats}
 use Rattle.codec_desk.specs.DeskLaws.{map_both}
-use Rattle.codec_desk.specs.Desks.{told, InOrderSince, slot_calls, pool_calls}
+use Rattle.codec_desk.specs.Desks.{told, InOrderSince, TellsSince, slot_calls, pool_calls}
 use Rattle.codec_desk.specs.Each.{Pairs, Each}
 use Rattle.desk_threads.specs.Accounts.{is_by_codec, for_codecs, Balanced}
 use Rattle.desk_threads.specs.MadeLaws.{made_more}
@@ -48,22 +52,24 @@ log_before k o a more b is legal = follows_front k (opening_track o) a more (sub
 
 module _ {S : Type 0} (so : SlotOrderIsKept) (mo : MediaOrderIsKept) (sa : DuesAddUp slot_dues) (ma : DuesAddUp media_dues) where
   order_by : (n : ℕ) (s : Shared) (u v : Seat (Option S) (View Event)) (c d : View SlotEntry) (p q : View PoolEntry) (es : List SlotEntry) (ds : List PoolEntry)
-      → MadeSince c d es → MadeSince p q ds → InOrderSince es ds s u v → IsOrdered c p n s u → IsOrdered d q n s v
-  order_by n s u v c d p q es ds made does x was legal =
+      → MadeSince c d es → MadeSince p q ds → InOrderSince es ds s u v → TellsSince d.log s u v → IsOrdered c p n s u → IsOrdered d q n s v
+  order_by n s u v c d p q es ds made does x t was legal =
       let w = was (log_before s.codec s.opening u.me.0.log x.asked.more v.me.0.log x.asked.longer legal) in (
         subst (λ (l : List SlotEntry). IsInOrder slot_dues slot_at slot_at s.codec s.opening v.me.0 l) (sym (made_more c d es made)) (so.more s.codec s.opening u.me.0 v.me.0 x.slots (made_by c) es sa x.asked x.slot_order w.0),
         subst (λ (l : List PoolEntry). IsInOrder media_dues asked_at done_at s.codec s.opening v.me.0 l) (sym (made_more p q ds does)) (mo.more s.codec s.opening u.me.0 v.me.0 x.media (made_by p) ds ma x.lent x.media_order w.1),
+        subst (λ (l : List Ending). AreTold (entries_of d.log) l) (sym ((dues_add_up end_dues).grow s.codec s.opening u.me.0 v.me.0 t.ends t.owed))
+            (told_both (entries_of d.log) (dues_of end_dues s.codec s.opening u.me.0) t.ends (told_later c.log made.more d.log (dues_of end_dues s.codec s.opening u.me.0) made.longer w.2) t.told),
       )
 
   each_by : (c d : View SlotEntry) (p q : View PoolEntry) (es : List SlotEntry) (ds : List PoolEntry) → MadeSince c d es → MadeSince p q ds
-      → (n : ℕ) (xs : List Shared) (us vs : List (Seat (Option S) (View Event))) → Each (InOrderSince es ds) xs us vs → Pairs (IsOrdered c p) n xs us → Pairs (IsOrdered d q) n xs vs
-  each_by c d p q es ds made does n [] [] [] e h = tt
-  each_by c d p q es ds made does n [] [] (v ∷ vs) e h = absurd e
-  each_by c d p q es ds made does n [] (u ∷ us) vs e h = absurd h
-  each_by c d p q es ds made does n (x ∷ xs) [] vs e h = absurd h
-  each_by c d p q es ds made does n (x ∷ xs) (u ∷ us) [] e h = absurd e
-  each_by c d p q es ds made does n (x ∷ xs) (u ∷ us) (v ∷ vs) e h =
-      (order_by n x u v c d p q es ds made does e.0 h.0, each_by c d p q es ds made does (suc n) xs us vs e.1 h.1)
+      → (n : ℕ) (xs : List Shared) (us vs : List (Seat (Option S) (View Event))) → Each (InOrderSince es ds) xs us vs → Each (TellsSince d.log) xs us vs → Pairs (IsOrdered c p) n xs us → Pairs (IsOrdered d q) n xs vs
+  each_by c d p q es ds made does n [] [] [] e t h = tt
+  each_by c d p q es ds made does n [] [] (v ∷ vs) e t h = absurd e
+  each_by c d p q es ds made does n [] (u ∷ us) vs e t h = absurd h
+  each_by c d p q es ds made does n (x ∷ xs) [] vs e t h = absurd h
+  each_by c d p q es ds made does n (x ∷ xs) (u ∷ us) [] e t h = absurd e
+  each_by c d p q es ds made does n (x ∷ xs) (u ∷ us) (v ∷ vs) e t h =
+      (order_by n x u v c d p q es ds made does e.0 t.0 h.0, each_by c d p q es ds made does (suc n) xs us vs e.1 t.1 h.1)
 
 module _ {C : Type 0} (desk : Desk C) where
   balanced_by : (c : ℕ) (mine : List StepOp) (a b : Seats C) → SettledBy c mine desk a b → Balanced desk a → Balanced desk b
@@ -80,5 +86,5 @@ module _ {C : Type 0} (desk : Desk C) where
   pub paid_by : SlotOrderIsKept → MediaOrderIsKept → DuesAddUp slot_dues → DuesAddUp media_dues → (c : ℕ) (mine : List StepOp) (a b : Seats C) → SettledBy c mine desk a b → IsPaid desk a → IsPaid desk b
   paid_by so mo sa ma c mine a b x was = record {
     balanced = balanced_by c mine a b x was.balanced;
-    ordered = each_by so mo sa ma a.slots.me.0 b.slots.me.0 a.pool.me.0 b.pool.me.0 x.entries x.does x.made x.pool 0 desk.codecs.items a.codecs.items b.codecs.items x.order was.ordered;
+    ordered = each_by so mo sa ma a.slots.me.0 b.slots.me.0 a.pool.me.0 b.pool.me.0 x.entries x.does x.made x.pool 0 desk.codecs.items a.codecs.items b.codecs.items x.order x.told was.ordered;
   }

@@ -73,9 +73,9 @@ module _ {C : Type 0} where
     own = owned_same desk (owns_at s media x.deeds) a o b join x.own own;
   }
 
-  module _ {K : Type 0} (s : ScriptData) (media : List (List Chunk)) (desk : Desk C) where
+  module _ {K G : Type 0} (s : ScriptData) (media : List (List Chunk)) (desk : Desk C) where
     -- one job more
-    by_role : (r : Role) (n w : ℕ) (ts : List CallerTrace) (job : Job C K) (a b : Seats C) → role_at w n ≡ r → length ts ≡ n - (w + 1) → AreTakenIn desk a job.seats b → IsPaid desk b → RoleDid s media desk r job → HaveRun s media desk ts a → HaveRun s media desk (noted r job.results.items ts) b
+    by_role : (r : Role) (n w : ℕ) (ts : List CallerTrace) (job : Job C K G) (a b : Seats C) → role_at w n ≡ r → length ts ≡ n - (w + 1) → AreTakenIn desk a job.seats b → IsPaid desk b → RoleDid s media desk r job → HaveRun s media desk ts a → HaveRun s media desk (noted r job.results.items ts) b
     by_role role.Turner n w ts job a b is many join paid did x = same_more s media desk ts a job.seats b join paid did.calls did.owned x
     by_role role.Worker n w ts job a b is many join paid did x = same_more s media desk ts a job.seats b join paid did.calls did.owned x
     by_role (role.Caller c) n w ts job a b is many join paid did x =
@@ -91,7 +91,7 @@ module _ {C : Type 0} where
           own = owned_joined s media desk x.deeds did.deeds c a job.seats b (number ∙ (sym many ∙ acted_many s media 0 (histories_in a.codecs.items) ts x.deeds x.acted)) join x.own did.own did.others;
         }
 
-    pub join_more : (n w : ℕ) (ts : List CallerTrace) (job : Job C K) (a b : Seats C) → length ts ≡ n - (w + 1) → AreTakenIn desk a job.seats b → IsPaid desk b → RoleDid s media desk (role_at w n) job → HaveRun s media desk ts a → HaveRun s media desk (noted (role_at w n) job.results.items ts) b
+    pub join_more : (n w : ℕ) (ts : List CallerTrace) (job : Job C K G) (a b : Seats C) → length ts ≡ n - (w + 1) → AreTakenIn desk a job.seats b → IsPaid desk b → RoleDid s media desk (role_at w n) job → HaveRun s media desk ts a → HaveRun s media desk (noted (role_at w n) job.results.items ts) b
     join_more n w ts job a b many join paid did x = by_role (role_at w n) n w ts job a b refl many join paid did x
 
   -- with no job joined

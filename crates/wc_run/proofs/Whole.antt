@@ -8,15 +8,20 @@ use Rattle.wc_config.specs.declared.codec.CoderId.{CoderId}
 use Rattle.wc_chunk.specs.declared.chunk.Chunk.{Chunk}
 use Rattle.wc_pool.specs.Bag.{held_in, is_legal_pool}
 use Rattle.slot_registry.specs.Slots.{is_legal_slots}
-use Rattle.codec_model.specs.declared.entry.Entry.{Entry}
+use Rattle.wc_base.specs.declared.who.By.TheVariants as by
+use Rattle.coder_api.specs.declared.slot.SlotEntry.{SlotEntry}
+use Rattle.codec_model.specs.declared.entry.{Entry.Entry, Opening.Opening}
 use Rattle.codec_accounts.specs.Bags.{SameBag}
 use Rattle.codec_accounts.specs.Codec.{state_after}
 use Rattle.codec_accounts.specs.Owed.{at}
 use Rattle.seat_lock.specs.Logs.{AllBy, entries_of}
 use Rattle.codec_logs.specs.declared.event.Event.{Event}
-use Rattle.codec_logs.specs.Logs.{IsLog}
+use Rattle.codec_logs.specs.Logs.{IsLog, opening_track}
 use Rattle.shared_codec.specs.Order.{done_at, slot_at}
+use Rattle.shared_codec.specs.Dues.{slot_dues}
 use Rattle.shared_codec.specs.Shared.{Shared}
+use Rattle.shared_codec.specs.Sums.{all_dues}
+use Rattle.shared_codec.specs.Told.{end_dues, AreTold}
 use Rattle.codec_desk.specs.declared.desk.Desk.{Desk}
 use Rattle.codec_desk.specs.declared.desk.Seats.{Seats}
 use Rattle.codec_desk.specs.Desks.{SitAt}
@@ -32,18 +37,19 @@ use Rattle.run_model.specs.declared.run.CodecTrace.{CodecTrace}
 use Rattle.run_model.specs.Fits.{AreLegalTraces, IsLegalRun, recorded_of}
 use Rattle.run_model.specs.Recorded.{Recorded, opening_at}
 use Rattle.media_accounts.specs.Accounts.{own_in}
-use Rattle.run_laws.specs.Fits.{AreAtRest}
-use Rattle.run_laws.specs.Paid.{histories_of}
+use Rattle.run_laws.specs.Fits.{AreAtRest, FitsAsTried}
+use Rattle.run_laws.specs.Paid.{by_cause, histories_of}
+use Rattle.run_laws.specs.Told.{LogTellsEnds}
 use Rattle.run_laws.specs.Quiet.{IsAtRest}
 use Rattle.wc_run.specs.Acted.{HaveActed, calls_of_all}
-use Rattle.wc_run.specs.Fits.{CallersFit, FitsByThreads}
+use Rattle.wc_run.specs.Fits.{FitsByThreads}
 use Rattle.wc_run.specs.Made.{IsMade}
 use Rattle.wc_run.specs.Owned.{owns_at}
 use Rattle.wc_run.specs.Runnable.{IsDeskOf}
 use Rattle.wc_run.specs.Threads.{HaveRun}
 use Rattle.wc_run.specs.Traces.{IsLeftBy}
 use Rattle.wc_run.proofs.PoolEntries.{media_past, none_beyond}
-use Rattle.wc_run.proofs.Finishing.{Opens, opens_many, opening_there, logs_in, logs_many, histories_are, legal_traces, entries_are, all_well, logs_legal, logs_rest, slots_in_order, media_in_order, slots_same, calls_same}
+use Rattle.wc_run.proofs.Finishing.{Opens, opens_many, opening_there, logs_in, logs_many, histories_are, legal_traces, entries_are, all_well, logs_legal, logs_rest, slots_in_order, media_in_order, ends_told, slots_same, calls_same}
 use Rattle.wc_run.proofs.Owning.{owned_all}
 
 -- a law of run_laws
@@ -51,11 +57,16 @@ abbrev pub CodecsRest : Type 0
 CodecsRest = (script : ScriptData) (logs : List (Log Event)) (run : Recorded) → run.codecs ≡ histories_of logs → ((k : ℕ) → k < length logs → IsLog k (opening_at script k) (at k logs)) → AreAtRest script logs
     → (k : ℕ) → k < length run.codecs → IsAtRest (state_after (opening_at script k) (at k run.codecs)).control
 
--- another, of this crate
-abbrev pub CallersFitThem : Type 0
-CallersFitThem = (script : ScriptData) (media : List (List Chunk)) (made : List CoderId) (run : Run) → IsMade script media made run → CallersFit script media (recorded_of run)
+-- another one
+abbrev pub EndsTell : Type 0
+EndsTell = (k : ℕ) (opening : Opening) (log : Log Event) (slots : List SlotEntry) → IsLog k opening log → AreTold slots (all_dues end_dues k (opening_track opening) log)
+    → ((place : ℕ) → by_cause (by.Codec k place) (all_dues slot_dues k (opening_track opening) log) ≡ by_cause (by.Codec k place) slots) → LogTellsEnds k opening slots log
 
-pub fits_by_threads : CallersFitThem → (s : ScriptData) (media : List (List Chunk)) (made : List CoderId) (run : Run) → IsMade s media made run → FitsByThreads s media made run
+-- and one of this crate
+abbrev pub MadeFits : Type 0
+MadeFits = (script : ScriptData) (media : List (List Chunk)) (made : List CoderId) (run : Run) → IsMade script media made run → FitsAsTried script media made (recorded_of run)
+
+pub fits_by_threads : MadeFits → (s : ScriptData) (media : List (List Chunk)) (made : List CoderId) (run : Run) → IsMade s media made run → FitsByThreads s media made run
 fits_by_threads law s media made run x = record { is_made = x; fits = law s media made run x }
 
 module _ {C : Type 0} where
@@ -69,10 +80,10 @@ module _ {C : Type 0} where
     held = left.held ∙ ap held_in (sym left.pool);
   }
 
-  pub is_made : CodecsRest → (s : ScriptData) (media : List (List Chunk)) (made : List CoderId) (desk : Desk C) (b : Seats C) (f : Finished C) (ts : List CallerTrace) (run : Run)
+  pub is_made : CodecsRest → EndsTell → (s : ScriptData) (media : List (List Chunk)) (made : List CoderId) (desk : Desk C) (b : Seats C) (f : Finished C) (ts : List CallerTrace) (run : Run)
       → Opens s.codecs desk.codecs.items → SitAt desk b → desk.slots.made ≡ made → IsFinished desk b f → AllBalanced desk b → WholeInOrder desk b → EachIsQuiet desk.codecs.items b.codecs.items
       → (x : HaveRun s media desk ts b) → SameBag (all_calls desk.codecs.items b.codecs.items) (calls_of_all x.deeds) → AllBy b.pool.me.0.numbers b.pool.me.0.log → IsLeftBy ts f run → IsMade s media made run
-  is_made rest s media made desk b f ts run o sits made_is finished balanced whole quiet x calls all left =
+  is_made rest tell s media made desk b f ts run o sits made_is finished balanced whole quiet x calls all left =
       let xs = desk.codecs.items in
       let us = b.codecs.items in
       let sl = b.slots.me.0.log in
@@ -105,6 +116,8 @@ module _ {C : Type 0} where
               media_past (opening_at s) k place logs past ∙ sym (ap (flat_map (done_at k place)) pool ∙ none)
               )
         ]);
+        told = λ k lt. tell k (opening_at s k) (at k logs) run.slots (legal k lt) (subst (λ (l : List SlotEntry). AreTold l (all_dues end_dues k (opening_track (opening_at s k)) (at k logs))) (sym slots) (ends_told desk.pool desk.slots.id sl pl s.codecs xs us o well k lt))
+            (λ place. slots_in_order desk.pool desk.slots.id sl pl s.codecs xs us o well k place lt ∙ sym (ap (flat_map (slot_at k place)) slots));
         deeds = x.deeds;
         acted = subst (λ (z : List (List Entry) × List CallerTrace). HaveActed s media z.0 0 z.1 x.deeds) (λ i. (acted_as i, callers_as i)) x.acted;
         calls = λ t. sym (ap (sum_by t) (calls_same (opening_at s) 0 desk.pool desk.slots.id xs us sits.codecs openings)) ∙ calls t;

@@ -1,23 +1,15 @@
--- What of a run of threads fits its script: all but what ends of items tell of boxes.
+-- When a run of threads fits its script.
 use Rattle.std.specs.Prelude.{List}
 use Rattle.wc_chunk.specs.declared.chunk.Chunk.{Chunk}
-use Rattle.media_accounts.specs.Accounts.{MediaAreIn}
 use Rattle.wc_config.specs.declared.codec.CoderId.{CoderId}
 use Rattle.script_types.specs.declared.script.ScriptData.{ScriptData}
-use Rattle.run_model.specs.Recorded.{Recorded, steps_of}
-use Rattle.run_model.specs.Fits.{CallsAreIn, LooksAreIn, ArgumentsAreIn, LocalsAreIn, recorded_of, brought_to, lends_in, made_steps}
+use Rattle.run_laws.specs.Fits.{FitsAsTried}
+use Rattle.run_model.specs.Fits.{recorded_of}
 use Rattle.run_model.specs.declared.run.Run.{Run}
 use Rattle.wc_run.specs.Made.{IsMade}
 
--- What the callers did, and all that was done to the pool, fit the script as those of a replay do.
-pub record CallersFit (s : ScriptData) (media : List (List Chunk)) (w : Recorded) : Type 0 where
-  pub calls : CallsAreIn s w
-  pub looks : LooksAreIn s w
-  pub arguments : ArgumentsAreIn s media w
-  pub locals : LocalsAreIn s media w
-  pub accounted : MediaAreIn (steps_of s) (brought_to s media w) (lends_in s w) (made_steps w) w.pool
-
--- What a run of threads is of a script: what its threads made, and what of it fits the script.
+-- What a run of threads is of a script: what its threads made, and that it fits the script, but that a start may try twice to get its
+-- box, or not at all for want of memory.
 pub record FitsByThreads (s : ScriptData) (media : List (List Chunk)) (made : List CoderId) (run : Run) : Type 0 where
   pub is_made : IsMade s media made run
-  pub fits : CallersFit s media (recorded_of run)
+  pub fits : FitsAsTried s media made (recorded_of run)

@@ -19,32 +19,32 @@ use Rattle.wc_run.specs.Owned.{Owned, none_owned}
 use Rattle.wc_run.specs.Paid.{IsPaid}
 use Rattle.wc_run.specs.Roles.{role_at}
 
-module _ {C K : Type 0} (desk : Desk C) where
+module _ {C K G : Type 0} (desk : Desk C) where
   -- seats at this desk, each with one part, of which none runs an item of its own
-  pub record IsReady (job : Job C K) : Type 0 where
+  pub record IsReady (job : Job C K G) : Type 0 where
     pub sits : SitAt desk job.seats
     pub one : HaveParts 1 job.seats
     pub runs : EachRunsNone desk.codecs.items job.seats.codecs.items
 
   -- nothing of it was done
-  pub record IsNew (job : Job C K) : Type 0 where
+  pub record IsNew (job : Job C K G) : Type 0 where
     pub ready : IsReady job
     pub paid : IsPaid desk job.seats
     pub called : Named desk [] job.seats
     pub owned : Owned none_owned job.seats
     pub first : (job.results.items ≡ []) × (job.variables ≡ [])
 
-  abbrev pub AreReady : List (Job C K) → Type 0
-  AreReady jobs = (i : ℕ) (job : Job C K) → slice_get jobs i ≡ Some job → IsReady job
+  abbrev pub AreReady : List (Job C K G) → Type 0
+  AreReady jobs = (i : ℕ) (job : Job C K G) → slice_get jobs i ≡ Some job → IsReady job
 
-  abbrev pub AreNew : List (Job C K) → Type 0
-  AreNew jobs = (i : ℕ) (job : Job C K) → slice_get jobs i ≡ Some job → IsNew job
+  abbrev pub AreNew : List (Job C K G) → Type 0
+  AreNew jobs = (i : ℕ) (job : Job C K G) → slice_get jobs i ≡ Some job → IsNew job
 
 -- `media` has the chunks of each of the script's chunk files
-module _ {C K : Type 0} (s : ScriptData) (media : List (List Chunk)) (desk : Desk C) where
+module _ {C K G : Type 0} (s : ScriptData) (media : List (List Chunk)) (desk : Desk C) where
   -- A caller made all its steps. The calls that its seats made are those of its deeds, and what they made in the pool by callers'
   -- steps is what its deeds did to it.
-  pub record CallerDid (c : ℕ) (job : Job C K) : Type 0 where
+  pub record CallerDid (c : ℕ) (job : Job C K G) : Type 0 where
     pub deeds : List Deed
     pub acted : HasActed s media (histories_in job.seats.codecs.items) c job.results.items deeds
     pub calls : Named desk (calls_of deeds) job.seats
@@ -52,28 +52,28 @@ module _ {C K : Type 0} (s : ScriptData) (media : List (List Chunk)) (desk : Des
     pub others : (d : ℕ) → d ≢ c → own_in d (made_by job.seats.pool.me.0) ≡ []
 
   -- a thread of no caller made no call, and nothing in the pool by a caller's step
-  pub record NoneDid (job : Job C K) : Type 0 where
+  pub record NoneDid (job : Job C K G) : Type 0 where
     pub calls : Named desk [] job.seats
     pub owned : Owned none_owned job.seats
 
   -- only callers make calls
-  abbrev pub RoleDid : Role → Job C K → Type 0
+  abbrev pub RoleDid : Role → Job C K G → Type 0
   RoleDid role.Turner job = NoneDid job
   RoleDid role.Worker job = NoneDid job
   RoleDid (role.Caller c) job = CallerDid c job
 
   -- The job of this role was done, and no memory was wanted.
-  pub record HasDone (r : Role) (job : Job C K) : Type 0 where
+  pub record HasDone (r : Role) (job : Job C K G) : Type 0 where
     pub paid : IsPaid desk job.seats
     pub did : RoleDid r job
 
-  pub record IsDone (was job : Job C K) : Type 0 where
+  pub record IsDone (was job : Job C K G) : Type 0 where
     pub ready : IsReady desk job
     pub done : job.wanted ≡ false → HasDone was.role job
 
-  abbrev pub AreDone : List (Job C K) → List (Job C K) → Type 0
-  AreDone before after = (i : ℕ) (was job : Job C K) → slice_get before i ≡ Some was → slice_get after i ≡ Some job → IsDone was job
+  abbrev pub AreDone : List (Job C K G) → List (Job C K G) → Type 0
+  AreDone before after = (i : ℕ) (was job : Job C K G) → slice_get before i ≡ Some was → slice_get after i ≡ Some job → IsDone was job
 
   -- the jobs of a run with so many workers were done, as far as no memory was wanted
-  abbrev pub AllDone : ℕ → List (Job C K) → Type 0
-  AllDone workers jobs = (i : ℕ) (job : Job C K) → slice_get jobs i ≡ Some job → job.wanted ≡ false → HasDone (role_at workers i) job
+  abbrev pub AllDone : ℕ → List (Job C K G) → Type 0
+  AllDone workers jobs = (i : ℕ) (job : Job C K G) → slice_get jobs i ≡ Some job → job.wanted ≡ false → HasDone (role_at workers i) job

@@ -19,6 +19,7 @@ use Rattle.run_model.specs.Fits.{recorded_of}
 use Rattle.run_model.specs.declared.run.Run.{Run}
 use Rattle.run_laws.specs.Paid.{histories_of, slots_of, all_slots, by_cause}
 use Rattle.run_laws.specs.PoolPaid.{media_of}
+use Rattle.run_laws.specs.Told.{LogTellsEnds}
 use Rattle.std.specs.List.{flat_map}
 use Rattle.shared_codec.specs.Order.{ops_at, done_at}
 use Rattle.run_laws.specs.Quiet.{IsAtRest}
@@ -33,7 +34,7 @@ calls_in opening k [] = []
 calls_in opening k (l ∷ logs) = all_dues call_dues k (opening_track (opening k)) l ++ calls_in opening (suc k) logs
 
 -- What the threads of a run of this script made; `media` has the chunks of its chunk files, and `made` the ids of the coders that
--- were handed in. Nothing is said of how the ends of items tell of their acquires.
+-- were handed in.
 pub record IsMade (s : ScriptData) (media : List (List Chunk)) (made : List CoderId) (run : Run) : Type 0 where
   -- the passages of each codec's lock, which are a log of it, and what was recorded is their history
   pub logs : List (Log Event)
@@ -47,6 +48,8 @@ pub record IsMade (s : ScriptData) (media : List (List Chunk)) (made : List Code
   -- the registry has what the codecs' logs call for, each entry as often, and those by one entry of a codec in its order
   pub slots_called : SameBag (all_slots (opening_at s) 0 logs) run.slots
   pub slot_causes : (k place : ℕ) → k < length logs → by_cause (by.Codec k place) (slots_of (opening_at s) k (at k logs)) ≡ by_cause (by.Codec k place) run.slots
+  -- the ends of items tell how their acquires went
+  pub told : (k : ℕ) → k < length logs → LogTellsEnds k (opening_at s k) run.slots (at k logs)
   -- what the pool has by each entry of a codec is what that one's log calls for by it, in order
   pub media_causes : (k place : ℕ) → ops_at place (media_of (opening_at s) k (at k logs)) ≡ flat_map (done_at k place) run.pool
   -- each caller made all its steps: its deeds, in order

@@ -4,7 +4,7 @@ ghost use Rattle.wc_run.specs.Jobs.{IsReady, IsNew, AreNew, CallerDid, HasDone, 
 ghost use Rattle.wc_run.specs.Paid.{IsPaid};
 ghost use Rattle.wc_run.specs.Runnable.{IsRunnable, IsDeskOf};
 
-use codec_desk::{Clock, Desk, Seats, item_loop, turn_loop};
+use codec_desk::{Clock, Desk, Gate, Seats, Watch, item_loop, turn_loop};
 use coder_api::Coder;
 use desk_callers::caller_steps;
 use desk_threads::{accounts_are_kept, order_stands};
@@ -31,27 +31,27 @@ pub enum Role {
     Caller(u32),
 }
 
-/// The job of one thread: its role, its seats at the desk, and its clock. A caller has the results of its steps, its variables, and
+/// The job of one thread: its role, its seats at the desk, and its clock and gate. A caller has the results of its steps, its variables, and
 /// whether it wanted memory.
 #[derive(Drop)]
-pub struct Job<C: Coder, K> {
+pub struct Job<C: Coder, K, G> {
     pub role: Role,
     pub seats: Seats<C>,
-    pub clock: K,
+    pub watch: Watch<K, G>,
     pub results: Vec<StepResult>,
     pub variables: Variables,
     pub wanted: bool,
 }
 
 // Makes all steps of a caller, and notes whether memory was wanted.
-fn make_steps<C: Coder, K: Clock, R: Wait>(
+fn make_steps<C: Coder, K: Clock, G: Gate, R: Wait>(
     rt: &R,
     alloc: Global,
     desk: &Desk<C>,
     script: &ScriptData,
     media: &[List<Chunk>],
     caller: u32,
-    job: &mut Job<C, K>,
+    job: &mut Job<C, K, G>,
 )
     requires runnable { IsRunnable script.now }
     requires desk { IsDeskOf script.now desk.now }
@@ -73,7 +73,8 @@ fn make_steps<C: Coder, K: Clock, R: Wait>(
         caller,
         &mut job.results,
         &mut job.variables,
-        &mut job.clock,
+        &mut job.watch.clock,
+        &mut job.watch.gate,
     ) {
         Ok(()) => job.wanted = false,
         Err(NoMemory) => job.wanted = true,
@@ -81,14 +82,14 @@ fn make_steps<C: Coder, K: Clock, R: Wait>(
 }
 
 // Does a job to its end. `callers` counts the callers that still go on, and no clause rests on it.
-fn run_job<C: Coder, K: Clock, R: Wait>(
+fn run_job<C: Coder, K: Clock, G: Gate, R: Wait>(
     rt: &R,
     alloc: Global,
     desk: &Desk<C>,
     script: &ScriptData,
     media: &[List<Chunk>],
     callers: &AtomicU64,
-    job: &mut Job<C, K>,
+    job: &mut Job<C, K, G>,
 )
     requires runnable { IsRunnable script.now }
     requires desk { IsDeskOf script.now desk.now }
@@ -99,7 +100,15 @@ fn run_job<C: Coder, K: Clock, R: Wait>(
     order_stands::<C>();
     match job.role {
         Role::Turner => turn_loop(rt, desk, &mut job.seats, callers),
-        Role::Worker => item_loop(rt, alloc, desk, &mut job.seats, callers, &mut job.clock),
+        Role::Worker => item_loop(
+            rt,
+            alloc,
+            desk,
+            &mut job.seats,
+            callers,
+            &mut job.watch.clock,
+            &mut job.watch.gate,
+        ),
         Role::Caller(caller) => {
             make_steps(rt, alloc, desk, script, media, caller, job);
             callers.fetch_sub(1, Ordering::SeqCst);
@@ -109,14 +118,14 @@ fn run_job<C: Coder, K: Clock, R: Wait>(
 
 /// Does all jobs, each in a thread of its own where one can be made, and else one after the other. Where a thread cannot be made,
 /// std does the last half of the list first, so callers stand last.
-pub(crate) fn run_jobs<C: Coder, K: Clock + Send, R: Threads + Wait + Sync>(
+pub(crate) fn run_jobs<C: Coder, K: Clock + Send, G: Gate + Send, R: Threads + Wait + Sync>(
     rt: &R,
     alloc: Global,
     desk: &Desk<C>,
     script: &ScriptData,
     media: &[List<Chunk>],
     callers: &AtomicU64,
-    jobs: &mut [Job<C, K>],
+    jobs: &mut [Job<C, K, G>],
 )
     requires runnable { IsRunnable script.now }
     requires desk { IsDeskOf script.now desk.now }
@@ -128,7 +137,7 @@ pub(crate) fn run_jobs<C: Coder, K: Clock + Send, R: Threads + Wait + Sync>(
         return;
     }
     let threads = jobs.len();
-    let run = move |_place: usize, job: &mut Job<C, K>|
+    let run = move |_place: usize, job: &mut Job<C, K, G>|
         requires { IsRunnable script.now × (IsDeskOf script.now desk.now × IsNew desk.now job.now) }
         ensures { IsDone
             script.entry.now media.entry.now desk.entry.now job.entry.now job.exit.now }

@@ -42,11 +42,11 @@ fn note(role: Role, results: Vec<StepResult>, traces: &mut Vec<CallerTrace>)
 
 /// Joins the seats of jobs into these, one after the other, and puts together what the callers' steps came to: those of the jobs
 /// behind a turner and so many workers. The answer is whether a caller wanted memory. It takes no memory.
-pub(crate) fn join_jobs<C: Coder, K: Drop>(
+pub(crate) fn join_jobs<C: Coder, K: Drop, G: Drop>(
     desk: &Desk<C>,
     seats: &mut Seats<C>,
     workers: usize,
-    jobs: Vec<Job<C, K>>,
+    jobs: Vec<Job<C, K, G>>,
     traces: &mut Vec<CallerTrace>,
 ) -> bool
     requires sits { SitAt desk.now seats.old }

@@ -11,5 +11,5 @@ mod threads;
 mod traces;
 
 pub use jobs::{Job, Role};
-pub use laws::{callers_fit, made_fits};
+pub use laws::made_fits;
 pub use running::run;

@@ -8,7 +8,7 @@ ghost use Rattle.wc_run.specs.Paid.{Stays};
 ghost use Rattle.wc_run.specs.Roles.{role_at};
 
 use crate::jobs::{Job, Role};
-use codec_desk::{Desk, Seats};
+use codec_desk::{Desk, Seats, Watch};
 use coder_api::Coder;
 use desk_threads::{order_stands, split_seats};
 use media_variables::Variables;
@@ -31,13 +31,13 @@ pub(crate) fn role_at(place: usize, workers: usize) -> Role
 }
 
 // A job with seats that are split off.
-fn make_job<C: Coder, K: Drop>(
+fn make_job<C: Coder, K: Drop, G: Drop>(
     alloc: Global,
     desk: &Desk<C>,
     seats: &mut Seats<C>,
     role: Role,
-    clock: K,
-) -> Result<Job<C, K>, NoMemory>
+    watch: Watch<K, G>,
+) -> Result<Job<C, K, G>, NoMemory>
     requires sits { SitAt desk.now seats.old }
     requires parts { HaveParts seats.old.pool.me.0.parts seats.old }
     requires two { 2 ≤ seats.old.pool.me.0.parts }
@@ -54,40 +54,40 @@ fn make_job<C: Coder, K: Drop>(
     Ok(Job {
         role,
         seats: split_seats(desk, seats, codecs),
-        clock,
+        watch,
         results,
         variables,
         wanted: false,
     })
 }
 
-/// A job for each clock, as far as there is memory: first a turner, then so many workers, and then the callers.
-pub(crate) fn make_jobs<C: Coder, K: Drop>(
+/// A job for each clock with its gate, as far as there is memory: first a turner, then so many workers, and then the callers.
+pub(crate) fn make_jobs<C: Coder, K: Drop, G: Drop>(
     alloc: Global,
     desk: &Desk<C>,
     seats: &mut Seats<C>,
     workers: usize,
-    clocks: Vec<K>,
-    jobs: &mut Vec<Job<C, K>>,
+    watches: Vec<Watch<K, G>>,
+    jobs: &mut Vec<Job<C, K, G>>,
 ) -> Result<(), NoMemory>
     requires sits { SitAt desk.now seats.old }
     requires parts { HaveParts seats.old.pool.me.0.parts seats.old }
-    requires few { length clocks.items + 1 ≤ seats.old.pool.me.0.parts }
-    requires short { length clocks.items < 4294967296 }
+    requires few { length watches.items + 1 ≤ seats.old.pool.me.0.parts }
+    requires short { length watches.items < 4294967296 }
     requires empty { jobs.old.items ≡ [] }
-    requires room { length clocks.items ≤ vec_capacity jobs.old }
+    requires room { length watches.items ≤ vec_capacity jobs.old }
     ensures new { AreNew desk.now jobs.new.items }
-    ensures roles { (i : ℕ) (job : Job C K) → slice_get jobs.new.items i ≡ Some job
+    ensures roles { (i : ℕ) (job : Job C K G) → slice_get jobs.new.items i ≡ Some job
         → job.role ≡ role_at workers i }
     ensures stays { Stays desk.now seats.old seats.new }
     ensures parts { (n : ℕ) × HaveParts n seats.new
         × (n + length jobs.new.items ≡ seats.old.pool.me.0.parts) }
-    ensures all { OnOk result (length jobs.new.items ≡ length clocks.items) }
-    ensures within { length jobs.new.items ≤ length clocks.items }
+    ensures all { OnOk result (length jobs.new.items ≡ length watches.items) }
+    ensures within { length jobs.new.items ≤ length watches.items }
 {
-    for clock in clocks {
+    for watch in watches {
         let role = role_at(jobs.len(), workers);
-        let Ok(job) = make_job(alloc, desk, seats, role, clock) else {
+        let Ok(job) = make_job(alloc, desk, seats, role, watch) else {
             return Err(NoMemory);
         };
         jobs.push_reserved(job);

@@ -13,7 +13,7 @@ ghost use Rattle.wc_run.specs.Threads.{RunsFrom};
 use crate::jobs::{Job, run_jobs};
 use crate::joining::join_jobs;
 use crate::making::make_jobs;
-use codec_desk::{Clock, Desk, Seats};
+use codec_desk::{Clock, Desk, Gate, Seats, Watch};
 use coder_api::Coder;
 use desk_threads::{accounts_are_kept, order_stands, settle_desk};
 use run_model::CallerTrace;
@@ -26,7 +26,7 @@ use wc_base::{List, NoMemory};
 use wc_chunk::Chunk;
 
 // Does all jobs, and joins their seats: then what the callers' steps came to.
-fn do_jobs<C: Coder, K: Clock + Send + Drop, R: Threads + Wait + Sync>(
+fn do_jobs<C: Coder, K: Clock + Send + Drop, G: Gate + Send + Drop, R: Threads + Wait + Sync>(
     rt: &R,
     alloc: Global,
     desk: &Desk<C>,
@@ -34,14 +34,14 @@ fn do_jobs<C: Coder, K: Clock + Send + Drop, R: Threads + Wait + Sync>(
     script: &ScriptData,
     media: &[List<Chunk>],
     workers: usize,
-    mut jobs: Vec<Job<C, K>>,
+    mut jobs: Vec<Job<C, K, G>>,
     mut traces: Vec<CallerTrace>,
 ) -> Result<Vec<CallerTrace>, NoMemory>
     requires runnable { IsRunnable script.now }
     requires desk { IsDeskOf script.now desk.now }
     requires sits { SitAt desk.now seats.old }
     requires new { AreNew desk.now jobs.items }
-    requires roles { (i : ℕ) (job : Job C K) → slice_get jobs.items i ≡ Some job
+    requires roles { (i : ℕ) (job : Job C K G) → slice_get jobs.items i ≡ Some job
         → job.role ≡ role_at workers i }
     requires few { length jobs.items < 4294967296 }
     requires empty { traces.items ≡ [] }
@@ -73,7 +73,7 @@ fn do_jobs<C: Coder, K: Clock + Send + Drop, R: Threads + Wait + Sync>(
 }
 
 // Callers, workers and a turner, each in a thread of its own where one can be made; then what the callers' steps came to.
-fn run_threads<C: Coder, K: Clock + Send + Drop, R: Threads + Wait + Sync>(
+fn run_threads<C: Coder, K: Clock + Send + Drop, G: Gate + Send + Drop, R: Threads + Wait + Sync>(
     rt: &R,
     alloc: Global,
     desk: &Desk<C>,
@@ -81,15 +81,15 @@ fn run_threads<C: Coder, K: Clock + Send + Drop, R: Threads + Wait + Sync>(
     script: &ScriptData,
     media: &[List<Chunk>],
     workers: usize,
-    clocks: Vec<K>,
+    watches: Vec<Watch<K, G>>,
 ) -> Result<Vec<CallerTrace>, NoMemory>
     requires runnable { IsRunnable script.now }
     requires desk { IsDeskOf script.now desk.now }
     requires sits { SitAt desk.now seats.old }
     requires parts { HaveParts seats.old.pool.me.0.parts seats.old }
-    requires enough { length clocks.items + 1 ≤ seats.old.pool.me.0.parts }
-    requires few { length clocks.items < 4294967296 }
-    requires clocks { length clocks.items ≡ workers + 1 + length script.now.callers }
+    requires enough { length watches.items + 1 ≤ seats.old.pool.me.0.parts }
+    requires few { length watches.items < 4294967296 }
+    requires watches { length watches.items ≡ workers + 1 + length script.now.callers }
     ensures sits { SitAt desk.now seats.new }
     ensures parts { HaveParts seats.old.pool.me.0.parts seats.new }
     ensures runs { EachRunsNone desk.now.codecs.items seats.old.codecs.items
@@ -98,13 +98,13 @@ fn run_threads<C: Coder, K: Clock + Send + Drop, R: Threads + Wait + Sync>(
     ensures ran { IfOk result
         (λ ts. RunsFrom script.now media.now desk.now seats.old ts.items seats.new) }
 {
-    let Ok(mut traces) = Vec::with_capacity(alloc, clocks.len()) else {
+    let Ok(mut traces) = Vec::with_capacity(alloc, watches.len()) else {
         return Err(NoMemory);
     };
-    let Ok(mut jobs) = Vec::with_capacity(alloc, clocks.len()) else {
+    let Ok(mut jobs) = Vec::with_capacity(alloc, watches.len()) else {
         return Err(NoMemory);
     };
-    match make_jobs(alloc, desk, seats, workers, clocks, &mut jobs) {
+    match make_jobs(alloc, desk, seats, workers, watches, &mut jobs) {
         Ok(()) => do_jobs(rt, alloc, desk, seats, script, media, workers, jobs, traces),
         Err(NoMemory) => {
             let _ = join_jobs(desk, seats, workers, jobs, &mut traces);
@@ -116,7 +116,12 @@ fn run_threads<C: Coder, K: Clock + Send + Drop, R: Threads + Wait + Sync>(
 /// The callers of a script, so many workers and a turner on a desk, each in a thread of its own where one can be made; and then
 /// all that is left to do. The answer is what the callers' steps came to. Whatever it is, the seats have all their parts again, and
 /// came to rest.
-pub(crate) fn run_desk<C: Coder, K: Clock + Send + Drop, R: Threads + Wait + Sync>(
+pub(crate) fn run_desk<
+    C: Coder,
+    K: Clock + Send + Drop,
+    G: Gate + Send + Drop,
+    R: Threads + Wait + Sync,
+>(
     rt: &R,
     alloc: Global,
     desk: &Desk<C>,
@@ -124,16 +129,17 @@ pub(crate) fn run_desk<C: Coder, K: Clock + Send + Drop, R: Threads + Wait + Syn
     script: &ScriptData,
     media: &[List<Chunk>],
     workers: usize,
-    clocks: Vec<K>,
+    watches: Vec<Watch<K, G>>,
     clock: &mut K,
+    gate: &mut G,
 ) -> Result<Vec<CallerTrace>, NoMemory>
     requires runnable { IsRunnable script.now }
     requires desk { IsDeskOf script.now desk.now }
     requires sits { SitAt desk.now seats.old }
     requires parts { HaveParts seats.old.pool.me.0.parts seats.old }
-    requires enough { length clocks.items + 1 ≤ seats.old.pool.me.0.parts }
-    requires few { length clocks.items < 4294967296 }
-    requires clocks { length clocks.items ≡ workers + 1 + length script.now.callers }
+    requires enough { length watches.items + 1 ≤ seats.old.pool.me.0.parts }
+    requires few { length watches.items < 4294967296 }
+    requires watches { length watches.items ≡ workers + 1 + length script.now.callers }
     ensures sits { SitAt desk.now seats.new }
     ensures parts { HaveParts seats.old.pool.me.0.parts seats.new }
     ensures runs { EachRunsNone desk.now.codecs.items seats.old.codecs.items
@@ -145,7 +151,7 @@ pub(crate) fn run_desk<C: Coder, K: Clock + Send + Drop, R: Threads + Wait + Syn
 {
     accounts_are_kept::<C>();
     order_stands::<C>();
-    let traces = run_threads(rt, alloc, desk, seats, script, media, workers, clocks);
-    settle_desk(rt, alloc, desk, seats, clock);
+    let traces = run_threads(rt, alloc, desk, seats, script, media, workers, watches);
+    settle_desk(rt, alloc, desk, seats, clock, gate);
     traces
 }

@@ -9,7 +9,7 @@ use Rattle.desk_run.proofs.workers.join_all.Goals as goal
 pub loop-job-init : goal.loop-job-init
 loop-job-init g c =
     let gives = c.into_iter-job-iterator.ensures.into_iter_gives in
-    let J = Job g.row.C.Denot g.row.K.Denot in
+    let J = Job g.row.C.Denot g.row.K.Denot g.row.G.Denot in
     record {
       long = search rules;
       goes = goes_none c.args.desk.now c.args.seats.now c.requires.sits;
@@ -22,12 +22,12 @@ join_seats-requires-clause-sits g c κs within = c.loop-job.invariant.goes.sits
 
 pub join_seats-requires-clause-other : goal.join_seats-requires-clause-other
 join_seats-requires-clause-other g c κs within =
-    let J = Job g.row.C.Denot g.row.K.Denot in
+    let J = Job g.row.C.Denot g.row.K.Denot g.row.G.Denot in
     (subst (λ (l : List J). EachMayJoin c.args.desk.now l) c.in-Some.ensures.steps.0 c.loop-job.invariant.rest).0.ready.sits
 
 pub loop-job-preserved : goal.loop-job-preserved
 loop-job-preserved g c =
-    let J = Job g.row.C.Denot g.row.K.Denot in
+    let J = Job g.row.C.Denot g.row.K.Denot g.row.G.Denot in
     let desk = c.args.desk.now in
     let i = c.loop-job.invariant in
     let steps = c.in-Some.ensures.steps.0 in

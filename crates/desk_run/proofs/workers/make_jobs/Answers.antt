@@ -1,3 +1,4 @@
+use Rattle.work_moments.specs.declared.gate.Watch.{Watch}
 use Rattle.std.proofs.Common.{rules, ◌∙◌, ◌∷◌, [], ℕ, List, length, length-append, refl, sym, ap, subst, arith}
 use Rattle.desk_threads.specs.declared.jobs.Job.{Job}
 use Rattle.desk_threads.specs.Parts.{HaveParts}
@@ -6,13 +7,13 @@ use Rattle.desk_run.proofs.Goings.{goes_none, goes_then}
 use Rattle.desk_run.proofs.Lists.{none_of_none, snoc_each}
 use Rattle.desk_run.proofs.workers.make_jobs.Goals as goal
 
-pub loop-clock-init : goal.loop-clock-init
-loop-clock-init g c =
-    let gives = c.into_iter-clock-iterator.ensures.into_iter_gives in
-    let J = Job g.row.C.Denot g.row.K.Denot in
+pub loop-watch-init : goal.loop-watch-init
+loop-watch-init g c =
+    let gives = c.into_iter-watch-iterator.ensures.into_iter_gives in
+    let J = Job g.row.C.Denot g.row.K.Denot g.row.G.Denot in
     let empty = c.requires.empty in
     let none = ap (λ (l : List J). length l) empty in
-    let all = ap (λ (l : List g.row.K.Denot). length l) gives.0 in
+    let all = ap (λ (l : List (Watch g.row.K.Denot g.row.G.Denot)). length l) gives.0 in
     record {
       goes = goes_none c.args.desk.now c.args.seats.now c.requires.sits;
       parts = c.requires.parts;
@@ -25,23 +26,23 @@ loop-clock-init g c =
 
 pub make_job-requires-clause-two : goal.make_job-requires-clause-two
 make_job-requires-clause-two g c =
-    let i = c.loop-clock.invariant in
-    let short = ap (λ (l : List g.row.K.Denot). length l) c.in-Some.ensures.steps.0 in
+    let i = c.loop-watch.invariant in
+    let short = ap (λ (l : List (Watch g.row.K.Denot g.row.G.Denot)). length l) c.in-Some.ensures.steps.0 in
     let few = c.requires.few in
     let left = i.left in
     let clocks = i.clocks in
     omega (arith, left, clocks, short, few)
 
-pub loop-clock-preserved : goal.loop-clock-preserved
-loop-clock-preserved g c =
-    let J = Job g.row.C.Denot g.row.K.Denot in
-    let i = c.loop-clock.invariant in
+pub loop-watch-preserved : goal.loop-watch-preserved
+loop-watch-preserved g c =
+    let J = Job g.row.C.Denot g.row.K.Denot g.row.G.Denot in
+    let i = c.loop-watch.invariant in
     let e = c.in-Ok.ensures in
     let p = c.push_reserved.ensures in
     let job = c.in-Ok.job in
-    let xs = c.loop-clock.jobs.items in
+    let xs = c.loop-watch.jobs.items in
     let steps = c.in-Some.ensures.steps in
-    let short = ap (λ (l : List g.row.K.Denot). length l) steps.0 in
+    let short = ap (λ (l : List (Watch g.row.K.Denot g.row.G.Denot)). length l) steps.0 in
     let many = ap (λ (l : List J). length l) p.items ∙ length-append xs (job ∷ []) in
     let few = c.requires.few in
     let fewer = e.parts.pool in
@@ -50,7 +51,7 @@ loop-clock-preserved g c =
     let long = i.long in
     let step = steps.1 in
     record {
-      goes = goes_then c.args.desk.now c.args.seats.now c.loop-clock.seats c.make_job.new.seats i.goes e.goes;
+      goes = goes_then c.args.desk.now c.args.seats.now c.loop-watch.seats c.make_job.new.seats i.goes e.goes;
       parts = subst (λ (n : ℕ). HaveParts n c.make_job.new.seats) (sym e.parts.pool) e.parts;
       left = omega (arith, many, left, clocks, short, few, fewer);
       joins = subst (λ (l : List J). AllMayJoin c.args.desk.now l) (sym p.items) (snoc_each (λ (j : J). MayJoin c.args.desk.now j) xs job e.joins i.joins);

@@ -9,13 +9,13 @@ use Rattle.desk_run.proofs.workers.run_threads.Goals as goal
 
 pub run_jobs-requires-after_bounds : goal.run_jobs-requires-after_bounds
 run_jobs-requires-after_bounds g c κs within =
-    let J = Job g.row.C.Denot g.row.K.Denot in
+    let J = Job g.row.C.Denot g.row.K.Denot g.row.G.Denot in
     let e = c.make_jobs.ensures in
     subst (λ (l : List J). AreReady c.args.desk.now l) (sym c.as_mut_slice.ensures.value) (λ i job at. (e.joins i job at).ready)
 
 pub join_all-requires-clause-jobs : goal.join_all-requires-clause-jobs
 join_all-requires-clause-jobs g c κs within =
-    let J = Job g.row.C.Denot g.row.K.Denot in
+    let J = Job g.row.C.Denot g.row.K.Denot g.row.G.Denot in
     let desk = c.args.desk.now in
     let before = c.make_jobs.new.jobs in
     let after = c.run_jobs.new.jobs in
@@ -30,7 +30,7 @@ returns-clause-goes g c = goes_then c.args.desk.now c.args.seats.now c.make_jobs
 
 pub returns-clause-parts : goal.returns-clause-parts
 returns-clause-parts g c =
-    let J = Job g.row.C.Denot g.row.K.Denot in
+    let J = Job g.row.C.Denot g.row.K.Denot g.row.G.Denot in
     let before = c.make_jobs.new.jobs in
     let after = c.run_jobs.new.jobs in
     let p = c.make_jobs.ensures.parts in

@@ -9,7 +9,7 @@ use Rattle.desk_threads.proofs.jobs.join_jobs.Goals as goal
 pub loop-job-init : goal.loop-job-init
 loop-job-init g c =
     let gives = c.into_iter-job-iterator.ensures.into_iter_gives in
-    let J = Job g.row.C.Denot g.row.K.Denot in
+    let J = Job g.row.C.Denot g.row.K.Denot g.row.G.Denot in
     record {
       long = search rules;
       sits = c.requires.sits;
@@ -27,12 +27,12 @@ join_seats-requires-clause-sits g c κs within = c.loop-job.invariant.sits
 
 pub join_seats-requires-clause-other : goal.join_seats-requires-clause-other
 join_seats-requires-clause-other g c κs within =
-    let J = Job g.row.C.Denot g.row.K.Denot in
+    let J = Job g.row.C.Denot g.row.K.Denot g.row.G.Denot in
     (subst (λ (l : List J). AllReady c.args.desk.now l) c.in-Some.ensures.steps.0 c.loop-job.invariant.rest).0.sits
 
 pub loop-job-preserved : goal.loop-job-preserved
 loop-job-preserved g c =
-    let J = Job g.row.C.Denot g.row.K.Denot in
+    let J = Job g.row.C.Denot g.row.K.Denot g.row.G.Denot in
     let i = c.loop-job.invariant in
     let steps = c.in-Some.ensures.steps.0 in
     let short = ap (λ (l : List J). length l) steps in

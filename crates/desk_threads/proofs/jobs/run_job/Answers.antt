@@ -53,5 +53,5 @@ returns-in-Turner-clause-done g c =
       settled = e.settled;
       calls = e.calls;
       found = subst (λ (r : Role). Found c.args.desk.now r c.args.job.now.seats c.turn_loop.new.seats) (sym c.in-Turner.is) e.looked;
-      timed = timed_rest c.args.desk.now c.args.job.now.seats c.turn_loop.new.seats (g.K.Clock.told c.args.job.now.clock) e.ends;
+      timed = timed_rest c.args.desk.now c.args.job.now.seats c.turn_loop.new.seats (g.K.Clock.told c.args.job.now.watch.clock) e.ends;
     }

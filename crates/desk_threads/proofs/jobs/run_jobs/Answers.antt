@@ -1,4 +1,4 @@
-use Rattle.std.proofs.Common.{rules, ◌≡◌, ◌<◌, ◌∙◌, ℕ, length, refl, subst}
+use Rattle.std.proofs.Common.{rules, ◌<◌, ◌∙◌, ℕ, length, refl, subst}
 use Rattle.std.proofs.lemmas.Option.{get_or_from_slice_get, slice_get_read, slice_get_within}
 use Rattle.desk_threads.specs.declared.jobs.Job.{Job}
 use Rattle.desk_threads.specs.Jobs.{IsReady, IsDone}
@@ -12,7 +12,7 @@ returns-clause-many g c = c.for_each_mut.auto.s
 
 pub returns-clause-ready : goal.returns-clause-ready
 returns-clause-ready g c i job at =
-    let J = Job g.row.C.Denot g.row.K.Denot in
+    let J = Job g.row.C.Denot g.row.K.Denot g.row.G.Denot in
     let there = subst (λ (n : ℕ). i < n) c.for_each_mut.auto.s (slice_get_within c.for_each_mut.new.s i job at) in
     let e = (c.for_each_mut.ensures i job there).1 in
     let now = e.left ∙ get_or_from_slice_get c.for_each_mut.new.s i job job at in
@@ -20,7 +20,7 @@ returns-clause-ready g c i job at =
 
 pub returns-clause-done : goal.returns-clause-done
 returns-clause-done g c i was job at there =
-    let J = Job g.row.C.Denot g.row.K.Denot in
+    let J = Job g.row.C.Denot g.row.K.Denot g.row.G.Denot in
     let e = (c.for_each_mut.ensures i was (slice_get_within c.args.jobs.now i was at)).1 in
     let old = e.argument_is ∙ get_or_from_slice_get c.args.jobs.now i was was at in
     let now = e.left ∙ get_or_from_slice_get c.for_each_mut.new.s i job was there in

@@ -37,7 +37,7 @@ returns-in-Worker g c =
     let b = c.item_loop.new.seats in
     record {
       ready = record { sits = e.sits; one = parts_after desk 1 a b was.ready.one e.settled; runs = e.runs was.ready.runs };
-      done = λ none. subst (λ (r : Role). HasDone c.args.script.now c.args.media.now desk r (record c.args.job.now { seats = b; clock = c.item_loop.new.clock })) (sym c.in-Worker.is) (record {
+      done = λ none. subst (λ (r : Role). HasDone c.args.script.now c.args.media.now desk r (record c.args.job.now { seats = b; watch = record { clock = c.item_loop.new.clock; gate = c.item_loop.new.gate } })) (sym c.in-Worker.is) (record {
         paid = record { balanced = c.accounts_are_kept.ensures.kept desk a b e.settled was.paid.balanced; ordered = c.order_stands.ensures.kept desk a b e.settled was.paid.ordered };
         did = record { calls = no_more desk a b [] e.calls was.called; owned = owned_settled desk none_owned a b e.settled was.owned };
       });

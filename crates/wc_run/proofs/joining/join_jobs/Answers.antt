@@ -13,7 +13,7 @@ use Rattle.wc_run.proofs.joining.join_jobs.Goals as goal
 
 pub loop-job-init : goal.loop-job-init
 loop-job-init g c =
-    let J = Job g.row.C.Denot g.row.K.Denot in
+    let J = Job g.row.C.Denot g.row.K.Denot g.row.G.Denot in
     let desk = c.args.desk.now in
     let gives = c.into_iter-job-iterator.ensures.into_iter_gives in
     let all = ap (λ (l : List J). length l) gives.0 in
@@ -39,12 +39,12 @@ join_seats-requires-clause-sits g c κs within = c.loop-job.invariant.sits
 
 pub join_seats-requires-clause-other : goal.join_seats-requires-clause-other
 join_seats-requires-clause-other g c κs within =
-    let J = Job g.row.C.Denot g.row.K.Denot in
+    let J = Job g.row.C.Denot g.row.K.Denot g.row.G.Denot in
     (subst (λ (l : List J). From (λ i j. IsReady c.args.desk.now j) c.loop-job.place l) c.in-Some.ensures.steps.0 c.loop-job.invariant.rest).0.sits
 
 pub role_at-requires : goal.role_at-requires
 role_at-requires g c =
-    let J = Job g.row.C.Denot g.row.K.Denot in
+    let J = Job g.row.C.Denot g.row.K.Denot g.row.G.Denot in
     let short = ap (λ (l : List J). length l) c.in-Some.ensures.steps.0 in
     let place = c.loop-job.invariant.place in
     let few = c.requires.few in
@@ -52,7 +52,7 @@ role_at-requires g c =
 
 pub note-requires : goal.note-requires
 note-requires g c =
-    let J = Job g.row.C.Denot g.row.K.Denot in
+    let J = Job g.row.C.Denot g.row.K.Denot g.row.G.Denot in
     let i = c.loop-job.invariant in
     let short = ap (λ (l : List J). length l) c.in-Some.ensures.steps.0 in
     let place = i.place in
@@ -63,7 +63,7 @@ note-requires g c =
 
 pub loop-job-preserved : goal.loop-job-preserved
 loop-job-preserved g c =
-    let J = Job g.row.C.Denot g.row.K.Denot in
+    let J = Job g.row.C.Denot g.row.K.Denot g.row.G.Denot in
     let i = c.loop-job.invariant in
     let desk = c.args.desk.now in
     let w = c.args.workers in

@@ -1,3 +1,4 @@
+use Rattle.work_moments.specs.declared.gate.Watch.{Watch}
 use Rattle.std.proofs.Common.{rules, ◌≡◌, ◌∙◌, ◌∷◌, [], ℕ, List, Some, length, length-append, refl, sym, ap, subst, arith}
 use Rattle.std.specs.Prelude.{slice_get}
 use Rattle.wc_run.specs.declared.jobs.Job.{Job}
@@ -8,13 +9,13 @@ use Rattle.wc_run.proofs.Lists.{none_at, more_at}
 use Rattle.wc_run.proofs.JobLists.{stays_none, stays_then}
 use Rattle.wc_run.proofs.making.make_jobs.Goals as goal
 
-pub loop-clock-init : goal.loop-clock-init
-loop-clock-init g c =
-    let gives = c.into_iter-clock-iterator.ensures.into_iter_gives in
-    let J = Job g.row.C.Denot g.row.K.Denot in
+pub loop-watch-init : goal.loop-watch-init
+loop-watch-init g c =
+    let gives = c.into_iter-watch-iterator.ensures.into_iter_gives in
+    let J = Job g.row.C.Denot g.row.K.Denot g.row.G.Denot in
     let empty = c.requires.empty in
     let none = ap (λ (l : List J). length l) empty in
-    let all = ap (λ (l : List g.row.K.Denot). length l) gives.0 in
+    let all = ap (λ (l : List (Watch g.row.K.Denot g.row.G.Denot)). length l) gives.0 in
     record {
       stays = stays_none c.args.desk.now c.args.seats.now c.requires.sits;
       parts = c.requires.parts;
@@ -28,37 +29,37 @@ loop-clock-init g c =
 
 pub role_at-role-requires : goal.role_at-role-requires
 role_at-role-requires g c =
-    let i = c.loop-clock.invariant in
+    let i = c.loop-watch.invariant in
     let clocks = i.clocks in
     let short = c.requires.short in
-    let len : c.len.result ≡ length c.loop-clock.jobs.items = c.len.ensures ∙ c.loop-clock.jobs.ok.0 in
+    let len : c.len.result ≡ length c.loop-watch.jobs.items = c.len.ensures ∙ c.loop-watch.jobs.ok.0 in
     omega (arith, clocks, short, len)
 
 pub make_job-requires-clause-sits : goal.make_job-requires-clause-sits
-make_job-requires-clause-sits g c κs within = c.loop-clock.invariant.stays.sits
+make_job-requires-clause-sits g c κs within = c.loop-watch.invariant.stays.sits
 
 pub make_job-requires-clause-parts : goal.make_job-requires-clause-parts
-make_job-requires-clause-parts g c κs within = c.loop-clock.invariant.parts
+make_job-requires-clause-parts g c κs within = c.loop-watch.invariant.parts
 
 pub make_job-requires-clause-two : goal.make_job-requires-clause-two
 make_job-requires-clause-two g c κs within =
-    let i = c.loop-clock.invariant in
-    let short = ap (λ (l : List g.row.K.Denot). length l) c.in-Some.ensures.steps.0 in
+    let i = c.loop-watch.invariant in
+    let short = ap (λ (l : List (Watch g.row.K.Denot g.row.G.Denot)). length l) c.in-Some.ensures.steps.0 in
     let few = c.requires.few in
     let left = i.left in
     let clocks = i.clocks in
     omega (arith, left, clocks, short, few)
 
-pub loop-clock-preserved : goal.loop-clock-preserved
-loop-clock-preserved g c =
-    let J = Job g.row.C.Denot g.row.K.Denot in
-    let i = c.loop-clock.invariant in
+pub loop-watch-preserved : goal.loop-watch-preserved
+loop-watch-preserved g c =
+    let J = Job g.row.C.Denot g.row.K.Denot g.row.G.Denot in
+    let i = c.loop-watch.invariant in
     let e = c.in-Ok.ensures in
     let p = c.push_reserved.ensures in
     let job = c.in-Ok.job in
-    let xs = c.loop-clock.jobs.items in
+    let xs = c.loop-watch.jobs.items in
     let steps = c.in-Some.ensures.steps in
-    let short = ap (λ (l : List g.row.K.Denot). length l) steps.0 in
+    let short = ap (λ (l : List (Watch g.row.K.Denot g.row.G.Denot)). length l) steps.0 in
     let many = ap (λ (l : List J). length l) p.items ∙ length-append xs (job ∷ []) in
     let few = c.requires.few in
     let fewer = e.parts.pool in
@@ -67,11 +68,11 @@ loop-clock-preserved g c =
     let long = i.long in
     let step = steps.1 in
     record {
-      stays = stays_then c.args.desk.now c.args.seats.now c.loop-clock.seats c.make_job.new.seats i.stays c.make_job.ensures.stays;
+      stays = stays_then c.args.desk.now c.args.seats.now c.loop-watch.seats c.make_job.new.seats i.stays c.make_job.ensures.stays;
       parts = subst (λ (n : ℕ). HaveParts n c.make_job.new.seats) (sym e.parts.pool) e.parts;
       left = omega (arith, many, left, clocks, short, few, fewer);
       new = subst (λ (l : List J). AreNew c.args.desk.now l) (sym p.items) (more_at (λ i j. IsNew c.args.desk.now j) xs job e.new i.new);
-      roles = subst (λ (l : List J). (i : ℕ) (j : J) → slice_get l i ≡ Some j → j.role ≡ role_at c.args.workers i) (sym p.items) (more_at (λ i (j : J). j.role ≡ role_at c.args.workers i) xs job (e.role ∙ (c.role_at-role.ensures ∙ ap (role_at c.args.workers) (c.len.ensures ∙ c.loop-clock.jobs.ok.0))) i.roles);
+      roles = subst (λ (l : List J). (i : ℕ) (j : J) → slice_get l i ≡ Some j → j.role ≡ role_at c.args.workers i) (sym p.items) (more_at (λ i (j : J). j.role ≡ role_at c.args.workers i) xs job (e.role ∙ (c.role_at-role.ensures ∙ ap (role_at c.args.workers) (c.len.ensures ∙ c.loop-watch.jobs.ok.0))) i.roles);
       long = omega (arith, short, step, long);
       clocks = omega (arith, many, short, clocks);
       room = p.capacity ∙ i.room;

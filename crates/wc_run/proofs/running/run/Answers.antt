@@ -1,8 +1,19 @@
-use Rattle.std.proofs.Common.{List, length, ap, ◌∙◌, arith}
+use Rattle.std.proofs.Common.{List, [], ◌∷◌, length, length-append, ap, ◌∙◌, arith}
 use Rattle.script_types.specs.declared.script.CallerItem.{CallerItem}
 use Rattle.script_types.specs.declared.script.ScriptData.{ScriptData}
 use Rattle.wc_run.proofs.Scripts.{few_callers}
 use Rattle.wc_run.proofs.running.run.Goals as goal
+
+pub watches_of-requires : goal.watches_of-requires
+watches_of-requires g c =
+    let callers = few_callers c.args.script.now c.data-data.ensures.sound in
+    let seen = ap (λ (l : List CallerItem). length l) (c.as_slice.ensures ∙ ap (λ (d : ScriptData). d.callers) c.data-data.ensures.data) in
+    let cut = c.truncate.ensures.len in
+    let kept = c.truncate.new.self.ok.0 in
+    let workers = c.requires.few in
+    let gates = c.requires.gates in
+    let fewer = ap (λ (l : List g.row.G.Denot). length l) c.in-Some-pop.ensures.items ∙ length-append c.pop-2.new.self.items (c.in-Some-pop.gate ∷ []) in
+    omega (arith, callers, seen, cut, kept, workers, gates, fewer)
 
 pub run_script-requires-clause-sound : goal.run_script-requires-clause-sound
 run_script-requires-clause-sound g c κs within = rw c.data-data.ensures.data c.data-data.ensures.sound
@@ -14,10 +25,11 @@ run_script-requires-clause-few g c κs within =
     let cut = c.truncate.ensures.len in
     let kept = c.truncate.new.self.ok.0 in
     let workers = c.requires.few in
-    omega (arith, callers, seen, cut, kept, workers)
+    let same = c.in_ok-watches.ensures in
+    omega (arith, callers, seen, cut, kept, workers, same)
 
-pub run_script-requires-clause-clocks : goal.run_script-requires-clause-clocks
-run_script-requires-clause-clocks g c κs within =
+pub run_script-requires-clause-watches : goal.run_script-requires-clause-watches
+run_script-requires-clause-watches g c κs within =
     let callers = few_callers c.args.script.now c.data-data.ensures.sound in
     let seen = ap (λ (l : List CallerItem). length l) (c.as_slice.ensures ∙ ap (λ (d : ScriptData). d.callers) c.data-data.ensures.data) in
     let here = ap (λ (d : ScriptData). length d.callers) c.data-data.ensures.data in
@@ -27,4 +39,5 @@ run_script-requires-clause-clocks g c κs within =
     let popped = c.in-Some.ensures.cases in
     let workers = c.requires.few in
     let many = c.requires.clocks in
-    omega (arith, callers, seen, here, cut, kept, before, popped, workers, many)
+    let same = c.in_ok-watches.ensures in
+    omega (arith, callers, seen, here, cut, kept, before, popped, workers, many, same)

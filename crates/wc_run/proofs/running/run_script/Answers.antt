@@ -94,4 +94,4 @@ returns-in-Ok-clause-fits g c =
     let calls = c.calls_are_kept.ensures.all desk b (calls_of_all x.deeds) all x.calls in
     let quiet = c.rest_is_quiet.ensures desk e.rested.0 b all (e.runs (c.runs_begin.ensures desk a opened.sits opened.none)) e.rested.1 in
     IfOk-weaker c.run_of.result (IsLeftBy ts left) (FitsByThreads s media made)
-    (λ run y. fits_by_threads c.callers_fit.ensures s media made run (is_made c.codecs_rest.ensures s media made desk b left ts run opens e.sits opened.made_is c.finish_desk-left.ensures.finished balanced whole quiet x calls all.pool y)) c.run_of.ensures
+    (λ run y. fits_by_threads c.made_fits.ensures s media made run (is_made c.codecs_rest.ensures c.ends_are_told.ensures s media made desk b left ts run opens e.sits opened.made_is c.finish_desk-left.ensures.finished balanced whole quiet x calls all.pool y)) c.run_of.ensures

@@ -7,11 +7,11 @@ use Rattle.wc_run.proofs.JobLists.{all_ready, all_done}
 use Rattle.wc_run.proofs.threads.do_jobs.Goals as goal
 
 pub run_jobs-requires-clause-new : goal.run_jobs-requires-clause-new
-run_jobs-requires-clause-new g c κs within = subst (λ (l : List (Job g.row.C.Denot g.row.K.Denot)). AreNew c.args.desk.now l) (sym c.as_mut_slice.ensures.value) c.requires.new
+run_jobs-requires-clause-new g c κs within = subst (λ (l : List (Job g.row.C.Denot g.row.K.Denot g.row.G.Denot)). AreNew c.args.desk.now l) (sym c.as_mut_slice.ensures.value) c.requires.new
 
 pub join_jobs-requires-clause-ready : goal.join_jobs-requires-clause-ready
 join_jobs-requires-clause-ready g c κs within =
-    let J = Job g.row.C.Denot g.row.K.Denot in
+    let J = Job g.row.C.Denot g.row.K.Denot g.row.G.Denot in
     let before = c.args.jobs in
     let after = c.run_jobs.new.jobs in
     let value = c.as_mut_slice.ensures.value in
@@ -22,7 +22,7 @@ join_jobs-requires-clause-ready g c κs within =
 
 pub join_jobs-requires-clause-few : goal.join_jobs-requires-clause-few
 join_jobs-requires-clause-few g c κs within =
-    let J = Job g.row.C.Denot g.row.K.Denot in
+    let J = Job g.row.C.Denot g.row.K.Denot g.row.G.Denot in
     let before = c.args.jobs in
     let after = c.run_jobs.new.jobs in
     let many = c.run_jobs.ensures.many ∙ ap (λ (l : List J). length l) c.as_mut_slice.ensures.value in
@@ -32,7 +32,7 @@ join_jobs-requires-clause-few g c κs within =
 
 pub join_jobs-requires-clause-room : goal.join_jobs-requires-clause-room
 join_jobs-requires-clause-room g c κs within =
-    let J = Job g.row.C.Denot g.row.K.Denot in
+    let J = Job g.row.C.Denot g.row.K.Denot g.row.G.Denot in
     let before = c.args.jobs in
     let after = c.run_jobs.new.jobs in
     let many = c.run_jobs.ensures.many ∙ ap (λ (l : List J). length l) c.as_mut_slice.ensures.value in
@@ -42,7 +42,7 @@ join_jobs-requires-clause-room g c κs within =
 
 pub returns-then-join_jobs-clause-parts : goal.returns-then-join_jobs-clause-parts
 returns-then-join_jobs-clause-parts g c n has =
-    let J = Job g.row.C.Denot g.row.K.Denot in
+    let J = Job g.row.C.Denot g.row.K.Denot g.row.G.Denot in
     let before = c.args.jobs in
     let after = c.run_jobs.new.jobs in
     let many = c.run_jobs.ensures.many ∙ ap (λ (l : List J). length l) c.as_mut_slice.ensures.value in
@@ -51,7 +51,7 @@ returns-then-join_jobs-clause-parts g c n has =
 
 pub returns-clause-parts : goal.returns-clause-parts
 returns-clause-parts g c n has =
-    let J = Job g.row.C.Denot g.row.K.Denot in
+    let J = Job g.row.C.Denot g.row.K.Denot g.row.G.Denot in
     let before = c.args.jobs in
     let after = c.run_jobs.new.jobs in
     let many = c.run_jobs.ensures.many ∙ ap (λ (l : List J). length l) c.as_mut_slice.ensures.value in
@@ -60,7 +60,7 @@ returns-clause-parts g c n has =
 
 pub returns-clause-many : goal.returns-clause-many
 returns-clause-many g c =
-    let J = Job g.row.C.Denot g.row.K.Denot in
+    let J = Job g.row.C.Denot g.row.K.Denot g.row.G.Denot in
     let before = c.args.jobs in
     let after = c.run_jobs.new.jobs in
     let many = c.run_jobs.ensures.many ∙ ap (λ (l : List J). length l) c.as_mut_slice.ensures.value in
@@ -71,7 +71,7 @@ returns-clause-many g c =
 
 pub returns-clause-ran : goal.returns-clause-ran
 returns-clause-ran g c =
-    let J = Job g.row.C.Denot g.row.K.Denot in
+    let J = Job g.row.C.Denot g.row.K.Denot g.row.G.Denot in
     let s = c.args.script.now in
     let media = c.args.media.now in
     let desk = c.args.desk.now in
