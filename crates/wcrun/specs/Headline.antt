@@ -90,7 +90,7 @@ file_in None = None
 file_in (Some c) = Some c.file
 
 -- What a run is of a script and the chunks of its chunk files: a replay fits them and follows the order, and one with threads fits
--- them but for what ends of items tell of boxes, and is what these made.
+-- them as runs of threads do, and is what these made.
 abbrev pub IsRunBy : Mode → List CoderId → Ready → Run → Type 0
 IsRunBy mode.InOrder coders ready run = FitsInOrder ready.script ready.media coders run
 IsRunBy (mode.Threads workers) coders ready run = FitsByThreads ready.script ready.media coders run

@@ -11,8 +11,8 @@ use Rattle.wcrun.specs.Words.{Command}
 use Rattle.wcrun.specs.declared.command.Verb.{Verb}
 use Rattle.wcrun.specs.declared.command.Verb.TheVariants as verb
 
--- The text is the summary of a legal run of the load's script that threads made and that fits it, but for what ends of items tell of
--- boxes; `coders` has the ids of the coders that were handed in.
+-- The text is the summary of a legal run of the load's script that threads made and that fits it; `coders` has the ids of the coders
+-- that were handed in.
 pub record IsLoaded (load : Load) (coders : List CoderId) (text : List ℕ) : Type 0 where
   pub run : Run
   pub legal : IsLegalRun (load_script load.start load.chunks) run

@@ -20,7 +20,7 @@ use crate::load::run_load;
 use crate::prepare::prepare;
 use crate::prepared::{Prepared, Ran};
 use crate::probe::probe;
-use codec_desk::Clock;
+use codec_desk::{Clock, Gate};
 use coder_api::Coder;
 use run_model::Run;
 use script_types::{Fault, Script, Stop};
@@ -33,16 +33,18 @@ use wc_replay::replay;
 use wc_run::run;
 
 // The run of a script, in its order or with threads.
-fn run_by<C: Coder, K: Clock + Send + Drop, R: Threads + Wait + Sync>(
+fn run_by<C: Coder, K: Clock + Send + Drop, G: Gate + Send + Drop, R: Threads + Wait + Sync>(
     rt: &R,
     alloc: Global,
     mode: Mode,
     prepared: &Prepared,
     coders: Vec<C>,
     clocks: Vec<K>,
+    gates: Vec<G>,
 ) -> Result<Run, NoMemory>
     requires workers { IsInRange (verb.Run mode) }
     requires clocks { 34 ≤ length clocks.items }
+    requires gates { 34 ≤ length gates.items }
     requires order { mode ≡ modes.InOrder → IsSome prepared.now.script.order }
     requires each { length prepared.now.media.items ≡ length prepared.now.script.chunk_files }
     requires there { missing_in prepared.now.script prepared.now.media.items ≡ None }
@@ -54,13 +56,13 @@ fn run_by<C: Coder, K: Clock + Send + Drop, R: Threads + Wait + Sync>(
         Mode::InOrder => replay(alloc, &prepared.script, &prepared.media, coders),
         Mode::Threads(workers) => {
             let (script, media) = (&prepared.script, &prepared.media);
-            run(rt, alloc, script, media, coders, workers, clocks)
+            run(rt, alloc, script, media, coders, workers, clocks, gates)
         }
     }
 }
 
 // The run of the script in the file of this name.
-fn ran<F: Files, C: Coder, K: Clock + Send + Drop, R: Threads + Wait + Sync>(
+fn ran<F: Files, C: Coder, K: Clock + Send + Drop, G: Gate + Send + Drop, R: Threads + Wait + Sync>(
     rt: &R,
     alloc: Global,
     mode: Mode,
@@ -68,9 +70,11 @@ fn ran<F: Files, C: Coder, K: Clock + Send + Drop, R: Threads + Wait + Sync>(
     files: &mut F,
     coders: Vec<C>,
     clocks: Vec<K>,
+    gates: Vec<G>,
 ) -> Result<Ran, Stop<Fault>>
     requires workers { IsInRange (verb.Run mode) }
     requires clocks { 34 ≤ length clocks.items }
+    requires gates { 34 ≤ length gates.items }
     ensures ok { IfOk result (λ d. IsRunOf mode (reading (to_run mode name.now) (F.content files.old)
         (F.faults files.old) (F.faults files.new)
         (F.bytes_read files.old) (F.bytes_read files.new)
@@ -82,7 +86,7 @@ fn ran<F: Files, C: Coder, K: Clock + Send + Drop, R: Threads + Wait + Sync>(
         (F.failed_names files.old) (F.failed_names files.new)) e) }
 {
     let prepared = prepare(alloc, mode, name, files)?;
-    let run = run_by(rt, alloc, mode, &prepared, coders, clocks)?;
+    let run = run_by(rt, alloc, mode, &prepared, coders, clocks, gates)?;
     Ok(Ran { prepared, run })
 }
 
@@ -144,7 +148,14 @@ fn report<S: Sink>(alloc: Global, script: &Script, run: &Run, sink: &mut S) -> u
 }
 
 // Ends with the report of the run of the script in the file of this name, or with the line of why there is none.
-fn run_named<F: Files, S: Sink, C: Coder, K: Clock + Send + Drop, R: Threads + Wait + Sync>(
+fn run_named<
+    F: Files,
+    S: Sink,
+    C: Coder,
+    K: Clock + Send + Drop,
+    G: Gate + Send + Drop,
+    R: Threads + Wait + Sync,
+>(
     rt: &R,
     alloc: Global,
     mode: Mode,
@@ -153,9 +164,11 @@ fn run_named<F: Files, S: Sink, C: Coder, K: Clock + Send + Drop, R: Threads + W
     sink: &mut S,
     coders: Vec<C>,
     clocks: Vec<K>,
+    gates: Vec<G>,
 ) -> u8
     requires workers { IsInRange (verb.Run mode) }
     requires clocks { 34 ≤ length clocks.items }
+    requires gates { 34 ≤ length gates.items }
     ensures headline { Headline
         (reading (to_run mode name.now) (F.content files.old) (F.faults files.old) (F.faults files.new)
         (F.bytes_read files.old) (F.bytes_read files.new)
@@ -174,7 +187,7 @@ fn run_named<F: Files, S: Sink, C: Coder, K: Clock + Send + Drop, R: Threads + W
 {
     // The law by which what the files hold decides the status.
     files_have_one_outcome();
-    match ran(rt, alloc, mode, name, files, coders, clocks) {
+    match ran(rt, alloc, mode, name, files, coders, clocks, gates) {
         Ok(done) => report(alloc, &done.prepared.script, &done.run, sink),
         Err(Stop::Fault(fault)) => refuse(alloc, fault, sink),
         Err(Stop::NoMemory) => want_memory(sink),
@@ -226,12 +239,19 @@ fn probe_named<F: Files, S: Sink>(alloc: Global, name: &str, files: &mut F, sink
 /// with these coders, and writes the report of the run: status 0. `run FILE --workers N` does so with threads, and wants no
 /// order. `probe FILE` reads the media file FILE, and writes the line that tells what it holds: status 0. `load START N` runs a
 /// script that it draws with four workers, and writes a summary: status 0. Any other words are refused with the line of usage: 2.
-/// There are at least 34 clocks, one for each thread that there may be and one for what is left then.
+/// There are at least 34 clocks and 34 gates, one for each thread that there may be and one for what is left then.
 /// A script file that is no JSON or has a fault, a script with no order that is replayed, a media file that is none or lacks a
 /// chunk that is taken, give 3; a file that is not read 4; a count above its limit 7; each with one line that names the place.
 /// Want of memory gives 6 and the line `out of memory`, also after a part of the report. A sink that fails gives 5, with no
 /// further line.
-pub fn top<F: Files, S: Sink, C: Coder, K: Clock + Send + Drop, R: Threads + Wait + Sync>(
+pub fn top<
+    F: Files,
+    S: Sink,
+    C: Coder,
+    K: Clock + Send + Drop,
+    G: Gate + Send + Drop,
+    R: Threads + Wait + Sync,
+>(
     rt: &R,
     alloc: Global,
     words: &[String],
@@ -239,8 +259,10 @@ pub fn top<F: Files, S: Sink, C: Coder, K: Clock + Send + Drop, R: Threads + Wai
     sink: &mut S,
     coders: Vec<C>,
     clocks: Vec<K>,
+    gates: Vec<G>,
 ) -> u8
     requires clocks { 34 ≤ length clocks.items }
+    requires gates { 34 ≤ length gates.items }
     ensures headline { Headline
         (reading (command_of (words_of words.now)) (F.content files.old) (F.faults files.old) (F.faults files.new)
         (F.bytes_read files.old) (F.bytes_read files.new)
@@ -260,10 +282,10 @@ pub fn top<F: Files, S: Sink, C: Coder, K: Clock + Send + Drop, R: Threads + Wai
 {
     match command_of(words) {
         Some((Verb::Run(mode), name)) => {
-            run_named(rt, alloc, mode, name, files, sink, coders, clocks)
+            run_named(rt, alloc, mode, name, files, sink, coders, clocks, gates)
         }
         Some((Verb::Probe, name)) => probe_named(alloc, name, files, sink),
-        Some((Verb::Load(load), _)) => run_load(rt, alloc, load, sink, coders, clocks),
+        Some((Verb::Load(load), _)) => run_load(rt, alloc, load, sink, coders, clocks, gates),
         None => usage(sink),
     }
 }

@@ -5,7 +5,7 @@ ghost use Rattle.wcrun.specs.Load.{IsLoaded};
 ghost use Rattle.wcrun.specs.declared.command.Verb.TheVariants as verb;
 
 use crate::calls::{tell, want_memory};
-use codec_desk::Clock;
+use codec_desk::{Clock, Gate};
 use coder_api::Coder;
 use load_script::{Load, load_script};
 use load_summary::{load_text, loads_lack_nothing};
@@ -18,36 +18,46 @@ use wc_run::run;
 
 // The summary of a run of a load's script.
 #[tactic(auto, using(crate::proofs::Loads::lacks_nothing))]
-fn loaded<C: Coder, K: Clock + Send + Drop, R: Threads + Wait + Sync>(
+fn loaded<C: Coder, K: Clock + Send + Drop, G: Gate + Send + Drop, R: Threads + Wait + Sync>(
     rt: &R,
     alloc: Global,
     load: Load,
     coders: Vec<C>,
     clocks: Vec<K>,
+    gates: Vec<G>,
 ) -> Result<String, NoMemory>
     requires few { load.chunks ≤ 5000 }
     requires clocks { 34 ≤ length clocks.items }
+    requires gates { 34 ≤ length gates.items }
     ensures { IfOk result
         (λ text. IsLoaded load (map C.coder coders.items) (string_bytes text)) }
 {
     loads_lack_nothing();
     let script = load_script(alloc, load.start, load.chunks)?;
     let media: Vec<List<Chunk>> = Vec::new(alloc);
-    let run = run(rt, alloc, &script, &media, coders, 4, clocks)?;
+    let run = run(rt, alloc, &script, &media, coders, 4, clocks, gates)?;
     load_text(alloc, load.start, load.chunks, &run)
 }
 
 /// Ends with the summary of a run of a load. It reads no file.
-pub(crate) fn run_load<S: Sink, C: Coder, K: Clock + Send + Drop, R: Threads + Wait + Sync>(
+pub(crate) fn run_load<
+    S: Sink,
+    C: Coder,
+    K: Clock + Send + Drop,
+    G: Gate + Send + Drop,
+    R: Threads + Wait + Sync,
+>(
     rt: &R,
     alloc: Global,
     load: Load,
     sink: &mut S,
     coders: Vec<C>,
     clocks: Vec<K>,
+    gates: Vec<G>,
 ) -> u8
     requires few { load.chunks ≤ 5000 }
     requires clocks { 34 ≤ length clocks.items }
+    requires gates { 34 ≤ length gates.items }
     ensures headline { (r : Reading) → verb_in r.command ≡ Some (verb.Load load) → Headline r (map C.coder coders.items)
         (writing (S.told sink.old) (S.told sink.new) (S.faults sink.old) (S.faults sink.new) result) }
     ensures decided { (r : Reading) → verb_in r.command ≡ Some (verb.Load load) → Decides r
@@ -56,7 +66,7 @@ pub(crate) fn run_load<S: Sink, C: Coder, K: Clock + Send + Drop, R: Threads + W
         (writing (S.told sink.old) (S.told sink.new) (S.faults sink.old) (S.faults sink.new) result) }
     ensures done { result ≢ 5 → result ≢ 6 → result ≡ 0 }
 {
-    match loaded(rt, alloc, load, coders, clocks) {
+    match loaded(rt, alloc, load, coders, clocks, gates) {
         Ok(text) => tell(text.as_str(), sink),
         Err(NoMemory) => want_memory(sink),
     }

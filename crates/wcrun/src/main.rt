@@ -17,6 +17,8 @@ mod flac_encode_rows;
 #[cfg(test)]
 mod flac_rows;
 #[cfg(test)]
+mod gate_rows;
+#[cfg(test)]
 mod ground_rows;
 mod help;
 mod hints;
@@ -46,6 +48,7 @@ mod video_rows;
 pub use calls::top;
 use calls::want_memory;
 use clock::SystemClock;
+use codec_desk::OpenGate;
 use codecs::{all_codecs, coder_box, kind_of};
 pub use refusal::Refusal;
 use std::alloc::Global;
@@ -102,8 +105,11 @@ fn carry_out<S: Sink, R: Threads + Wait + Sync + rt::Files + rt::Clock + Alloc<A
     let Ok(clocks) = vec![in alloc; clock; 34] else {
         return want_memory(sink);
     };
+    let Ok(gates) = vec![in alloc; OpenGate; 34] else {
+        return want_memory(sink);
+    };
     let mut files = SystemFiles::new(alloc, rt);
-    top(rt, alloc, words, &mut files, sink, coders, clocks)
+    top(rt, alloc, words, &mut files, sink, coders, clocks, gates)
 }
 
 fn main(rt: HostRuntime) -> ExitCode {

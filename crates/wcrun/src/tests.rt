@@ -1,7 +1,7 @@
 // Whole calls on files and sinks in memory.
 use crate::codecs::{all_codecs, coder_box, kind_of};
 use crate::top;
-use codec_desk::Clock;
+use codec_desk::{Clock, OpenGate};
 use std::alloc::Global;
 use std::process::Abort;
 use std::sync::Wait;
@@ -183,7 +183,10 @@ pub(crate) fn call_without(
         }
     }
     let clocks = vec![in alloc; Ticks { last: 0 }; 34]?;
-    let status = top(rt, alloc, &given, &mut files, &mut sink, coders, clocks);
+    let gates = vec![in alloc; OpenGate; 34]?;
+    let status = top(
+        rt, alloc, &given, &mut files, &mut sink, coders, clocks, gates,
+    );
     Ok((status, sink))
 }
 
