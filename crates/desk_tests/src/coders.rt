@@ -1,8 +1,8 @@
-// Coders that wait for one another, and a clock.
+// Coders and gates that wait for one another, and a clock.
 ghost use Rattle.std.specs.Prelude.{List, Option, None, ℕ};
 
 use codec_definitions::Unit;
-use codec_desk::Clock;
+use codec_desk::{Clock, Gate};
 use coder_api::{Coder, CoderFault, Input};
 use sample_coder::SampleCoder;
 use std::alloc::{AllocError, Global};
@@ -103,6 +103,18 @@ impl Coder for HeldCoder {
 
     fn stop(&mut self) {
         self.inner.stop();
+    }
+}
+
+/// A gate at which jobs meet.
+#[derive(Drop)]
+pub struct MeetingGate {
+    pub meeting: Meeting,
+}
+
+impl Gate for MeetingGate {
+    fn pass(&mut self, _codec: u32, _epoch: u64, _item: u64) {
+        self.meeting.pass();
     }
 }
 

@@ -7,9 +7,9 @@ ghost use Rattle.desk_threads.specs.Parts.{HaveParts};
 ghost use Rattle.desk_run.specs.Opened.{MayOpen};
 ghost use Rattle.desk_tests.specs.Kept.{IsKept};
 
-use crate::coders::{CountingClock, HeldCoder, Meeting};
+use crate::coders::{CountingClock, HeldCoder, Meeting, MeetingGate};
 use bytes::Bytes;
-use codec_desk::{Desk, Seats, call_once};
+use codec_desk::{Desk, Seats, Watch, call_once};
 use codec_media::HoldingCore;
 use codec_model::{Call, Kind, Opening};
 use coder_api::Coder;
@@ -120,15 +120,23 @@ fn openings(alloc: Global, count: usize) -> Result<Vec<Opening>, AllocError>
     Ok(openings)
 }
 
-// So many clocks.
-fn clocks(alloc: Global, count: usize) -> Result<Vec<CountingClock>, AllocError>
+// So many clocks, with gates at this meeting.
+fn watches(
+    alloc: Global,
+    count: usize,
+    meeting: &Meeting,
+) -> Result<Vec<Watch<CountingClock, MeetingGate>>, AllocError>
     ensures { IfOk result (λ v. length v.items ≡ count) }
 {
-    let mut clocks = Vec::with_capacity(alloc, count)?;
+    let mut watches = Vec::with_capacity(alloc, count)?;
     for _ in 0..count {
-        clocks.push_reserved(CountingClock { asked: 0 });
+        let meeting = meeting.again()?;
+        watches.push_reserved(Watch {
+            clock: CountingClock { asked: 0 },
+            gate: MeetingGate { meeting },
+        });
     }
-    Ok(clocks)
+    Ok(watches)
 }
 
 /// A coder for each of so many decoders of PCM, which are held at this meeting.
@@ -157,13 +165,14 @@ fn call_and_complete<C: Coder, R: Threads + Wait + Sync>(
     desk: Desk<C>,
     mut seats: Seats<C>,
     calls: u32,
-    clocks: Vec<CountingClock>,
+    watches: Vec<Watch<CountingClock, MeetingGate>>,
+    mut gate: MeetingGate,
     cores: Vec<HoldingCore<C>>,
 ) -> Result<Finished<C>, NoMemory>
     requires sits { SitAt desk seats }
     requires parts { HaveParts (2 ^ 32) seats }
     requires none { SawNone seats }
-    requires few { length clocks.items + 1 ≤ 2 ^ 32 }
+    requires few { length watches.items + 1 ≤ 2 ^ 32 }
     requires empty { cores.items ≡ [] }
     requires room { length desk.codecs.items ≤ vec_capacity cores }
 {
@@ -172,26 +181,33 @@ fn call_and_complete<C: Coder, R: Threads + Wait + Sync>(
     runs_begin::<C>();
     let called = call_all(rt, alloc, &desk, &mut seats, calls);
     let mut clock = CountingClock { asked: 0 };
-    let left = complete_desk(rt, alloc, desk, seats, clocks, &mut clock, cores);
+    let left = complete_desk(
+        rt, alloc, desk, seats, watches, &mut clock, &mut gate, cores,
+    );
     called?;
     Ok(left)
 }
 
 /// What so many decoders leave, each with so many calls, a configure and then decodes, that a turner
-/// and workers do in threads. The configures meet.
+/// and workers do in threads. The configures meet in their coders, and all jobs before they are
+/// performed.
 pub fn decode_by_threads<R: Threads + Wait + Sync>(
     rt: &R,
     alloc: Global,
     decoders: u8,
     workers: u8,
     calls: u32,
-    meeting: &Meeting,
+    in_coders: &Meeting,
+    at_gates: &Meeting,
 ) -> Result<Finished<HeldCoder>, NoMemory> {
     let count = usize::from(decoders);
-    let coders = held_coders(alloc, count, meeting)?;
+    let coders = held_coders(alloc, count, in_coders)?;
     let openings = openings(alloc, count)?;
-    let clocks = clocks(alloc, usize::from(workers) + 1)?;
+    let watches = watches(alloc, usize::from(workers) + 1, at_gates)?;
+    let gate = MeetingGate {
+        meeting: at_gates.again()?,
+    };
     let cores = Vec::with_capacity(alloc, count)?;
     let (desk, seats) = open_desk(alloc, openings.as_slice(), 0, coders)?;
-    call_and_complete(rt, alloc, desk, seats, calls, clocks, cores)
+    call_and_complete(rt, alloc, desk, seats, calls, watches, gate, cores)
 }

@@ -47,13 +47,15 @@ fn boxes(left: &Finished<HeldCoder>) -> u64 {
 struct Seen {
     // the configures, and those that waited in vain for the others
     met: (u64, u64),
+    // the jobs that passed a gate, and those that waited there in vain
+    passed: (u64, u64),
     boxes: u64,
     ended: u64,
     held: u64,
 }
 
-// A run of so many decoders, whose configures wait for one another, by so many workers and a
-// turner.
+// A run of so many decoders, whose first jobs wait for one another at gates and again in their
+// coders, by so many workers and a turner.
 fn see<R: Threads + Wait + Sync>(
     rt: &R,
     alloc: Global,
@@ -61,10 +63,12 @@ fn see<R: Threads + Wait + Sync>(
     workers: u8,
     calls: u32,
 ) -> Result<Seen, Fail> {
-    let meeting = Meeting::of(alloc, u64::from(decoders))?;
-    let left = decode_by_threads(rt, alloc, decoders, workers, calls, &meeting)?;
+    let in_coders = Meeting::of(alloc, u64::from(decoders))?;
+    let at_gates = Meeting::of(alloc, u64::from(decoders))?;
+    let left = decode_by_threads(rt, alloc, decoders, workers, calls, &in_coders, &at_gates)?;
     Ok(Seen {
-        met: meeting.counts(),
+        met: in_coders.counts(),
+        passed: at_gates.counts(),
         boxes: boxes(&left),
         ended: all_ends(&left),
         held: left.pool.held(),
@@ -75,6 +79,7 @@ fn see<R: Threads + Wait + Sync>(
 fn four_configures_at_once(rt: HostRuntime) -> Result<(), Fail> {
     let wanted = Seen {
         met: (4, 0),
+        passed: (8, 0),
         boxes: 4,
         ended: 8,
         held: 0,
@@ -87,6 +92,7 @@ fn four_configures_at_once(rt: HostRuntime) -> Result<(), Fail> {
 fn three_workers_on_two_codecs_twenty_times(rt: HostRuntime) -> Result<(), Fail> {
     let wanted = Seen {
         met: (2, 0),
+        passed: (34, 0),
         boxes: 2,
         ended: 34,
         held: 0,

@@ -12,6 +12,7 @@ use shared_slots::{SlotRegistry, SlotSeat};
 use std::alloc::Global;
 use std::sync::Wait;
 use wc_base::NoMemory;
+use work_moments::{OpenGate, StillClock};
 
 /// A codec with its registry and its pool.
 pub struct Desk {
@@ -51,7 +52,8 @@ fn work<R: Wait>(rt: &R, alloc: Global, desk: &Desk, seats: &mut Seats, moment: 
         &mut seats.slots,
         &desk.pool,
         &mut seats.pool,
-        moment,
+        &mut StillClock { moment },
+        &mut OpenGate,
     );
 }
 

@@ -15,6 +15,7 @@ use std::alloc::Global;
 use std::sync::Wait;
 use wc_base::{NoMemory, SampleFormat, SoundShape, Text, Who};
 use wc_config::{AudioEncoderConfig, Config};
+use work_moments::{OpenGate, StillClock};
 
 /// One frame of 16 bits.
 pub const MONO: SoundShape = SoundShape {
@@ -108,7 +109,18 @@ pub fn work<R: Wait>(
     ensures kept_pool { Keeps pool.now pool_seat.old pool_seat.new }
     ensures free_pool { pools.IsFree pool.now pool_seat.new }
 {
-    let worked = codec.work_once(rt, alloc, seat, slots, slot_seat, pool, pool_seat, 0);
+    let mut clock = StillClock { moment: 0 };
+    let worked = codec.work_once(
+        rt,
+        alloc,
+        seat,
+        slots,
+        slot_seat,
+        pool,
+        pool_seat,
+        &mut clock,
+        &mut OpenGate,
+    );
     let turned = codec.turn_once(rt, seat, slots, slot_seat, pool, pool_seat);
     worked.is_some() || turned.is_some()
 }
