@@ -1,0 +1,4 @@
+pub mod Ending
+pub mod Judging
+pub mod Lending
+pub mod Walking
