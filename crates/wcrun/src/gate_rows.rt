@@ -37,7 +37,7 @@ const ONE_BOX: &str =
 {\"do\":\"flush\",\"on\":\"g\",\"as\":\"q\"},{\"do\":\"await\",\"promise\":\"q\"}]}]}";
 
 // Holds each that comes until so many have come, but no longer than 10,000,000 turns.
-#[derive(Drop)]
+#[derive(Clone, Drop)]
 struct Meeting {
     come: Arc<AtomicU64, Global>,
     late: Arc<AtomicU64, Global>,
@@ -84,7 +84,7 @@ impl Gate for Meeting {
 }
 
 // A clock of which each moment, whichever thread it is given to, is more than ten seconds after the one before it.
-#[derive(Drop)]
+#[derive(Clone, Drop)]
 struct LeapingClock {
     last: Arc<AtomicU64, Global>,
 }
@@ -121,28 +121,21 @@ fn run_on(
         coders.push(coder)?;
     }
     let last = Arc::new(alloc, AtomicU64::new(0))?;
-    let mut clocks = Vec::with_capacity(alloc, 34)?;
-    let mut gates = Vec::with_capacity(alloc, 34)?;
-    for _ in 0..34 {
-        let last = Arc::try_clone(&last)?;
-        clocks.push_reserved(LeapingClock { last });
-        gates.push_reserved(meeting.again()?);
-    }
+    let clocks = vec![in alloc; LeapingClock { last }; 34]?;
+    let gates = vec![in alloc; meeting.again()?; 34]?;
     let status = top(
         rt, alloc, &words, &mut files, &mut sink, coders, clocks, gates,
     );
     Ok((status, sink))
 }
 
-// How often a word begins a line's second part.
+// How often this text stands in another.
 fn count_of(text: &[u8], word: &[u8]) -> u64 {
     let mut all: u64 = 0;
-    let mut rest = text;
-    while let [_, more @ ..] = rest {
-        if rest.starts_with(word) {
+    for place in 0..text.len() {
+        if text[place..].starts_with(word) {
             all = all.saturating_add(1);
         }
-        rest = more;
     }
     all
 }
