@@ -2,6 +2,7 @@
 use Rattle.std.specs.Prelude.{◌*◌, ◌==◌, ◌||◌, ◌≤◌, ◌≡◌, nat_lt, ℕ, Bool, true, false, List, length, take, Option, Some, None, IfSome, is_some, option_map}
 use Rattle.wc_base.specs.declared.media.SoundShape.{SoundShape}
 use Rattle.wc_base.specs.declared.who.By.{By}
+use Rattle.wc_base.specs.declared.error.DomError.{DomError}
 use Rattle.wc_base.specs.declared.error.DomError.TheVariants as dom
 use Rattle.codec_definitions.specs.Pcm.{format_size}
 use Rattle.wc_pool.specs.declared.reference.MediaRef.{MediaRef}
@@ -45,6 +46,17 @@ pub record IsMadeBy (adds : PoolEntry → Type 0) (cause : By) (shape : SoundSha
   pub is : s ≡ record { shape = shape; held = Some reference }
   pub added : adds (made_by cause reference)
   pub same_bytes : reference.bytes ≡ bytes
+
+-- a reference was taken over as it is, by an init that is valid
+pub record IsAdopted (invalid : Bool) (shape : SoundShape) (held : MediaRef) (s : Sound) : Type 0 where
+  pub valid : invalid ≡ false
+  pub is : s ≡ record { shape = shape; held = Some held }
+
+-- it came back, since the init is invalid
+pub record IsRefused (invalid : Bool) (held : MediaRef) (e : DomError × MediaRef) : Type 0 where
+  pub error : e.0 ≡ dom.TypeErr
+  pub same : e.1 ≡ held
+  pub was : invalid ≡ true
 
 -- a pool's call cloned the reference of open data, and other data of the same shape holds the clone
 pub record IsCloneBy (adds : PoolEntry → Type 0) (cause : By) (old s : Sound) : Type 0 where

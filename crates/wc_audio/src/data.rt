@@ -1,11 +1,12 @@
 // Audio data that is open or detached.
 ghost use Rattle.std.specs.Prelude.{◌≡◌, ◌≤◌, [], true, false, length, take, Option, Some, None};
-ghost use Rattle.std.specs.Prelude.{IfOk, IfErr, IfSome, OnOk, OnErr};
-ghost use Rattle.std.specs.Prelude.{option_map, is_some, is_none, unwrap_or};
+ghost use Rattle.std.specs.Prelude.{IfOk, IfErr, IfSome, MatchResult, OnOk, OnErr};
+ghost use Rattle.std.specs.Prelude.{not, option_map, is_some, is_none, unwrap_or};
 ghost use Rattle.codec_definitions.specs.Pcm.{is_whole};
 ghost use Rattle.wc_base.specs.declared.error.DomError.TheVariants as dom;
 ghost use Rattle.wc_pool.specs.Pools.{KeepsAll};
 ghost use Rattle.wc_audio.specs.Sound.{held_as, needed, is_invalid, content_of, IsHeldOf, IsMadeBy};
+ghost use Rattle.wc_audio.specs.Sound.{IsAdopted, IsRefused};
 ghost use Rattle.wc_audio.specs.Sound.{IsCloneBy, IsInitFault, IsCloneFault, Closes, KeepsButHeld};
 
 use bytes::Bytes;
@@ -78,6 +79,31 @@ impl AudioData {
             shape,
             held: Some(held),
         })
+    }
+
+    /// Whether audio data of a shape can be made of so many bytes: exactly where `new` and `adopt` are not
+    /// refused with `TypeErr`.
+    pub fn is_valid(shape: &SoundShape, bytes: usize) -> bool
+        ensures { result ≡ not (is_invalid shape.now bytes) }
+    {
+        needed(shape, bytes).is_some()
+    }
+
+    /// Open data of a shape over a resource that is there already, with no copy of its bytes: it takes this
+    /// reference over, and sees the bytes at the front that the shape needs. `TypeErr` comes exactly where
+    /// the shape has no rate, frame or channel, or needs more bytes than the
+    /// resource has; the reference comes back with it. It takes no memory, and makes no entry.
+    pub fn adopt(shape: SoundShape, held: MediaRef) -> Result<AudioData, (DomError, MediaRef)>
+        ensures { let invalid = is_invalid shape (length held.bytes) in
+            MatchResult result (IsAdopted invalid shape held) (IsRefused invalid held) }
+    {
+        match needed(&shape, held.bytes().len()) {
+            Some(_) => Ok(AudioData {
+                shape,
+                held: Some(held),
+            }),
+            None => Err((DomError::TypeErr, held)),
+        }
     }
 
     /// Open data of samples that a decoder gave: a new resource with their bytes, of which there are at

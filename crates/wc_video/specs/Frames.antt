@@ -2,6 +2,7 @@
 use Rattle.std.specs.Prelude.{◌==◌, ◌||◌, ◌≤◌, ◌≡◌, nat_lt, ℕ, Bool, true, false, List, length, take, Option, Some, None, IfSome, is_some, option_map}
 use Rattle.wc_base.specs.declared.media.PictureShape.{PictureShape}
 use Rattle.wc_base.specs.declared.who.By.{By}
+use Rattle.wc_base.specs.declared.error.DomError.{DomError}
 use Rattle.wc_base.specs.declared.error.DomError.TheVariants as dom
 use Rattle.picture_planes.specs.Planes.{picture_size}
 use Rattle.wc_pool.specs.declared.reference.MediaRef.{MediaRef}
@@ -41,6 +42,17 @@ pub record IsMadeBy (adds : PoolEntry → Type 0) (cause : By) (shape : PictureS
   pub is : f ≡ record { shape = shape; held = Some reference }
   pub added : adds (made_by cause reference)
   pub same_bytes : reference.bytes ≡ bytes
+
+-- a reference was taken over as it is, by an init that is valid
+pub record IsAdopted (invalid : Bool) (shape : PictureShape) (held : MediaRef) (f : Frame) : Type 0 where
+  pub valid : invalid ≡ false
+  pub is : f ≡ record { shape = shape; held = Some held }
+
+-- it came back, since the init is invalid
+pub record IsRefused (invalid : Bool) (held : MediaRef) (e : DomError × MediaRef) : Type 0 where
+  pub error : e.0 ≡ dom.TypeErr
+  pub same : e.1 ≡ held
+  pub was : invalid ≡ true
 
 -- a pool's call cloned the reference of an open frame, and another frame of the same shape holds the clone
 pub record IsCloneBy (adds : PoolEntry → Type 0) (cause : By) (old f : Frame) : Type 0 where

@@ -1,11 +1,12 @@
 // Video frames that are open or detached.
 ghost use Rattle.std.specs.Prelude.{◌≡◌, ◌≤◌, [], true, false, length, take, Option, Some, None};
-ghost use Rattle.std.specs.Prelude.{IfOk, IfErr, IfSome, OnOk, OnErr};
-ghost use Rattle.std.specs.Prelude.{option_map, is_some, is_none, unwrap_or};
+ghost use Rattle.std.specs.Prelude.{IfOk, IfErr, IfSome, MatchResult, OnOk, OnErr};
+ghost use Rattle.std.specs.Prelude.{not, option_map, is_some, is_none, unwrap_or};
 ghost use Rattle.wc_base.specs.declared.error.DomError.TheVariants as dom;
 ghost use Rattle.picture_planes.specs.Planes.{picture_size};
 ghost use Rattle.wc_pool.specs.Pools.{KeepsAll};
 ghost use Rattle.wc_video.specs.Frames.{held_as, is_invalid, content_of, IsHeldOf, IsMadeBy};
+ghost use Rattle.wc_video.specs.Frames.{IsAdopted, IsRefused};
 ghost use Rattle.wc_video.specs.Frames.{IsCloneBy, IsInitFault, IsCloneFault, Closes, KeepsButHeld};
 
 use bytes::Bytes;
@@ -76,6 +77,31 @@ impl VideoFrame {
             shape,
             held: Some(held),
         })
+    }
+
+    /// Whether a frame of a shape can be made of so many bytes: exactly where `new` and `adopt` are not
+    /// refused with `TypeErr`.
+    pub fn is_valid(shape: &PictureShape, bytes: usize) -> bool
+        ensures { result ≡ not (is_invalid shape.now bytes) }
+    {
+        needed(shape, bytes).is_some()
+    }
+
+    /// An open frame of a shape over a resource that is there already, with no copy of its bytes: it takes this
+    /// reference over, and sees the bytes at the front that the shape needs. `TypeErr` comes exactly where
+    /// the picture has no row or column, or needs more bytes than the
+    /// resource has; the reference comes back with it. It takes no memory, and makes no entry.
+    pub fn adopt(shape: PictureShape, held: MediaRef) -> Result<VideoFrame, (DomError, MediaRef)>
+        ensures { let invalid = is_invalid shape (length held.bytes) in
+            MatchResult result (IsAdopted invalid shape held) (IsRefused invalid held) }
+    {
+        match needed(&shape, held.bytes().len()) {
+            Some(_) => Ok(VideoFrame {
+                shape,
+                held: Some(held),
+            }),
+            None => Err((DomError::TypeErr, held)),
+        }
     }
 
     /// An open frame of a picture that a decoder gave: a new resource with its bytes, of which there are
