@@ -4,5 +4,5 @@
 mod clock;
 mod gate;
 
-pub use clock::{Clock, StillClock};
+pub use clock::{Clock, ListClock, StillClock};
 pub use gate::{Gate, OpenGate, Watch};
