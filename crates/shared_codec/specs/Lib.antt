@@ -22,3 +22,4 @@ pub mod Order
 pub mod OrderLaws
 pub mod ToldLaws
 pub mod WorkLaws
+pub mod Tallies

@@ -21,6 +21,7 @@ use Rattle.codec_logs.specs.Logs.{Track, entry_of, history_of, track, track_made
 use Rattle.codec_logs.specs.LogLaws.{track_append, follows_more, legal_log}
 use Rattle.seat_lock.specs.Logs.{entries_of}
 use Rattle.seat_lock.specs.Own.{entries_of-append}
+use Rattle.work_moments.specs.Moments.{Telling}
 use Rattle.shared_codec.specs.declared.settling.Answer.{Answer}
 use Rattle.shared_codec.specs.Shared.{Shared, MadeIn, LookedIn, NoneIn, no_mint, no_spend}
 use Rattle.shared_codec.specs.Calls.{GaveIn, CallTells, TurnTells, ReclaimTells}
@@ -139,7 +140,7 @@ module _ {S : Type 0} (s : Shared) where
   pub finish_names : (d : DoneValue) (acquires : List SlotEntry) (moment place : ℕ) (a b : Seat (Option S) (View Event)) → FinishTells s d acquires moment place a b → Names s [] a.me.0 b.me.0
   finish_names d acquires moment place a b told = done_names d acquires moment told.0 a b told.2
 
-  pub work_names : (result : Option ℕ) (old now : Option (List ℕ)) (a b : Seat (Option S) (View Event)) → WorkTells s result old now a b → Names s [] a.me.0 b.me.0
+  pub work_names : (result : Option ℕ) (old now : Telling) (a b : Seat (Option S) (View Event)) → WorkTells s result old now a b → Names s [] a.me.0 b.me.0
   work_names (Some place) old now a b told =
       names_then s a.me.0 told.middle.me.0 b.me.0 [] [] (begin_names told.job a told.middle told.begins) (finish_names told.done told.acquires told.moment place told.middle b told.finish)
   work_names None old now a b told = looked_names a b told.0.looked

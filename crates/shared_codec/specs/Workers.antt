@@ -31,7 +31,7 @@ use Rattle.codec_media.specs.Holding.{EndedValue, pair_of}
 use Rattle.shared_codec.specs.Shared.{Shared, NoneIn}
 use Rattle.shared_codec.specs.Told.{asked_in, AreOfAsked, IsRefusalAt}
 use Rattle.shared_codec.specs.Jobs.{StartedIn, DoneIn}
-use Rattle.work_moments.specs.Moments.{Given}
+use Rattle.work_moments.specs.Moments.{Telling, Given}
 
 -- each of these is by the entry of the codec k at this place
 abbrev pub AreBy : ℕ → ℕ → List SlotEntry → Type 0
@@ -148,7 +148,7 @@ module _ {S : Type 0} where
   FinishTells s d es moment place a b = (back : EndedValue) × (place ≡ back.place) × DoneIn s d es moment back a b
 
   -- one item from its start to its end, at a moment that a clock gave, which told these moments before and now
-  pub record WorkedIn (s : Shared) (place : ℕ) (old now : Option (List ℕ)) (a b : Seat (Option S) (View Event)) : Type 0 where
+  pub record WorkedIn (s : Shared) (place : ℕ) (old now : Telling) (a b : Seat (Option S) (View Event)) : Type 0 where
     pub middle : Seat (Option S) (View Event)
     pub job : JobValue
     pub begins : BeginsIn s job a middle
@@ -159,6 +159,6 @@ module _ {S : Type 0} where
     pub finish : FinishTells s done acquires moment place middle b
 
   -- the item at the front was worked, or nothing could start
-  abbrev pub WorkTells : Shared → Option ℕ → Option (List ℕ) → Option (List ℕ) → Seat (Option S) (View Event) → Seat (Option S) (View Event) → Type 0
+  abbrev pub WorkTells : Shared → Option ℕ → Telling → Telling → Seat (Option S) (View Event) → Seat (Option S) (View Event) → Type 0
   WorkTells s None old now a b = NoneIn s (λ x. start_item x ≡ None) a b × (now ≡ old)
   WorkTells s (Some place) old now a b = WorkedIn s place old now a b
