@@ -24,7 +24,7 @@ use Rattle.codec_desk.specs.EachLaws.{pairs_length, pairs_get, each_same, each_o
 use Rattle.codec_desk.specs.Clocks.{EndsAt}
 use Rattle.codec_desk.specs.ClockLaws.{ends_none, ends_then, ends_one}
 use Rattle.codec_desk.specs.DeskLaws.{sees_same, sees_then}
-use Rattle.work_moments.specs.Moments.{Given}
+use Rattle.work_moments.specs.Moments.{Telling, Given}
 use Rattle.codec_desk.specs.Desks.{SitsAt, SeesMore, SitAt}
 use Rattle.codec_desk.specs.Rests.{Looked, Rested, Served, Still, Stirred, NoTask}
 use Rattle.codec_desk.specs.RestLaws.{rested_look, rested_earlier, looked_earlier}
@@ -130,7 +130,7 @@ module _ {S : Type 0} where
   pub look_ends : (pool slots : TableId) (place promise : ℕ) (seen : ℕ × PromiseState) (xs : List Shared) (us vs : List (Seat (Option S) (View Event))) → Pairs (SitsAt pool slots) 0 xs us → OneAt place (λ s a b. PromiseTells s promise seen a b) xs us vs → Each (EndsAt []) xs us vs
   look_ends pool slots place promise seen xs us vs at one = ends_one [] (λ s a b. PromiseTells s promise seen a b) (ends_seen promise seen) pool slots place xs us vs at one
 
-  pub item_ends : (pool slots : TableId) (place : ℕ) (result : Option ℕ) (old now : Option (List ℕ)) (xs : List Shared) (us vs : List (Seat (Option S) (View Event))) → Pairs (SitsAt pool slots) 0 xs us → OneAt place (λ s a b. WorkTells s result old now a b) xs us vs → (moments : List ℕ) × Given old moments now × Each (EndsAt moments) xs us vs
+  pub item_ends : (pool slots : TableId) (place : ℕ) (result : Option ℕ) (old now : Telling) (xs : List Shared) (us vs : List (Seat (Option S) (View Event))) → Pairs (SitsAt pool slots) 0 xs us → OneAt place (λ s a b. WorkTells s result old now a b) xs us vs → (moments : List ℕ) × Given old moments now × Each (EndsAt moments) xs us vs
   item_ends pool slots place result old now xs us vs at one =
       let told = ends_worked result old now one.partner one.before one.after one.so in (
         told.0,

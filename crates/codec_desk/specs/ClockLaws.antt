@@ -7,15 +7,16 @@ use Rattle.seat_lock.specs.Logs.{Has}
 use Rattle.seat_lock.specs.SinceLaws.{made_none, made_then}
 use Rattle.codec_logs.specs.declared.event.Event.{Event}
 use Rattle.codec_logs.specs.Logs.{entry_of}
-use Rattle.work_moments.specs.Moments.{Given}
+use Rattle.work_moments.specs.Moments.{Telling, Given}
 use Rattle.work_moments.specs.MomentLaws.{given_none, given_then}
 use Rattle.shared_codec.specs.Shared.{Shared}
+use Rattle.shared_codec.specs.Tallies.{moment_of}
 use Rattle.codec_desk.specs.declared.desk.Desk.{Desk}
 use Rattle.codec_desk.specs.declared.desk.Seats.{Seats}
 use Rattle.codec_desk.specs.Each.{Pairs, Each, OneAt}
 use Rattle.codec_desk.specs.EachLaws.{each_same, each_one, each_then}
 use Rattle.codec_desk.specs.Desks.{SitsAt, SitAt}
-use Rattle.codec_desk.specs.Clocks.{moment_of, IfAmong, AllAt, EndsAt, Timed}
+use Rattle.codec_desk.specs.Clocks.{IfAmong, AllAt, EndsAt, Timed}
 
 -- ---- moments
 
@@ -71,14 +72,14 @@ module _ {S : Type 0} where
 -- ---- desks
 
 module _ {C : Type 0} where
-  pub timed_none : (desk : Desk C) (a : Seats C) (told : Option (List ℕ)) → SitAt desk a → Timed desk a a told told
+  pub timed_none : (desk : Desk C) (a : Seats C) (told : Telling) → SitAt desk a → Timed desk a a told told
   timed_none desk a told at = record {
     moments = [];
     given = given_none told;
     ends = each_same (SitsAt desk.pool desk.slots.id) (EndsAt []) (λ n s u h. ends_none [] s u) 0 desk.codecs.items a.codecs.items at.codecs;
   }
 
-  pub timed_then : (desk : Desk C) (a b c : Seats C) (t u v : Option (List ℕ)) → Timed desk a b t u → Timed desk b c u v → Timed desk a c t v
+  pub timed_then : (desk : Desk C) (a b c : Seats C) (t u v : Telling) → Timed desk a b t u → Timed desk b c u v → Timed desk a c t v
   timed_then desk a b c t u v x y = record {
     moments = x.moments ++ y.moments;
     given = given_then t u v x.moments y.moments x.given y.given;
@@ -86,9 +87,9 @@ module _ {C : Type 0} where
   }
 
   -- what was done with no clock made no end
-  pub timed_rest : (desk : Desk C) (a b : Seats C) (told : Option (List ℕ)) → Each (EndsAt []) desk.codecs.items a.codecs.items b.codecs.items → Timed desk a b told told
+  pub timed_rest : (desk : Desk C) (a b : Seats C) (told : Telling) → Each (EndsAt []) desk.codecs.items a.codecs.items b.codecs.items → Timed desk a b told told
   timed_rest desk a b told ends = record { moments = []; given = given_none told; ends = ends }
 
   -- what was done by one answer of a clock
-  pub timed_by : (desk : Desk C) (a b : Seats C) (t u : Option (List ℕ)) (moment : ℕ) → Given t (moment ∷ []) u → Each (EndsAt (moment ∷ [])) desk.codecs.items a.codecs.items b.codecs.items → Timed desk a b t u
+  pub timed_by : (desk : Desk C) (a b : Seats C) (t u : Telling) (moment : ℕ) → Given t (moment ∷ []) u → Each (EndsAt (moment ∷ [])) desk.codecs.items a.codecs.items b.codecs.items → Timed desk a b t u
   timed_by desk a b t u moment given ends = record { moments = moment ∷ []; given = given; ends = ends }

@@ -20,7 +20,7 @@ use Rattle.seat_lock.specs.SinceLaws.{made_none, made_then}
 use Rattle.codec_logs.specs.declared.event.Event.{Event}
 use Rattle.codec_logs.specs.Logs.{box_by, track}
 use Rattle.seat_lock.specs.ClaimLaws.{entries_both}
-use Rattle.work_moments.specs.Moments.{Given}
+use Rattle.work_moments.specs.Moments.{Telling, Given}
 use Rattle.codec_accounts.specs.Registry.{Box}
 use Rattle.shared_pool.specs.Steps as pools
 use Rattle.seat_lock.specs.Logs.{entries_of}
@@ -386,7 +386,7 @@ module _ {C : Type 0} where
       cases (inr apart) = inl (slots_apart k w.codec.codec p es apart (of_by w.codec.codec job.place es w.work.caused))
 
   -- what a job seeks a box with, while items at work stay
-  pub seeks_meanwhile : (desk : Desk C) (place : ℕ) (asked : Option CoderId) (job : JobValue) (es : List SlotEntry) (t u v : Option (List ℕ)) (a b c : Seats C) → Seeks desk place asked job es t u a b → Meanwhile desk u v b c → Seeks desk place asked job es t v a c
+  pub seeks_meanwhile : (desk : Desk C) (place : ℕ) (asked : Option CoderId) (job : JobValue) (es : List SlotEntry) (t u v : Telling) (a b c : Seats C) → Seeks desk place asked job es t u a b → Meanwhile desk u v b c → Seeks desk place asked job es t v a c
   seeks_meanwhile desk place asked job es t u v a b c x m = record {
     sits = m.sits;
     work = works_stay desk place asked job es b c x.work m.leaves;
@@ -397,7 +397,7 @@ module _ {C : Type 0} where
   }
 
   -- nothing was sought so far
-  pub seeks_none : (desk : Desk C) (place : ℕ) (asked : Option CoderId) (job : JobValue) (t : Option (List ℕ)) (a : Seats C) → SitAt desk a → WorksAt desk place asked job [] a → Seeks desk place asked job [] t t a a
+  pub seeks_none : (desk : Desk C) (place : ℕ) (asked : Option CoderId) (job : JobValue) (t : Telling) (a : Seats C) → SitAt desk a → WorksAt desk place asked job [] a → Seeks desk place asked job [] t t a a
   seeks_none desk place asked job t a at w = record {
     sits = at;
     work = w;
@@ -407,7 +407,7 @@ module _ {C : Type 0} where
     leaves = each_same (SitsAt desk.pool desk.slots.id) LeavesItems (λ n s u h. leaves_none s u) 0 desk.codecs.items a.codecs.items at.codecs;
   }
 
-  pub sought_none : (desk : Desk C) (place : ℕ) (asked : Option CoderId) (job : JobValue) (es : List SlotEntry) (t : Option (List ℕ)) (a : Seats C) → es ≡ [] → asked ≡ None → missing_id job ≡ None → SitAt desk a → WorksAt desk place asked job [] a → Sought desk place asked job es None t t a a
+  pub sought_none : (desk : Desk C) (place : ℕ) (asked : Option CoderId) (job : JobValue) (es : List SlotEntry) (t : Telling) (a : Seats C) → es ≡ [] → asked ≡ None → missing_id job ≡ None → SitAt desk a → WorksAt desk place asked job [] a → Sought desk place asked job es None t t a a
   sought_none desk place asked job es t a is none lacks at w =
       subst (λ (l : List SlotEntry). Sought desk place asked job l None t t a a) (sym is)
       (record { seeks = seeks_none desk place asked job t a at w; may = lacks; lacks = subst (λ (o : Option CoderId). LackIs (entries_of a.slots.me.0.log) o [] None) (sym none) tt })
@@ -437,7 +437,7 @@ module _ {C : Type 0} where
   acquire_lacks desk k id (acquired.Refused e n) job new es v w stand g = refusal_at desk.slots k id es e n job new v w g stand
   acquire_lacks desk k id acquired.NoMemory job new es v w stand g = tt
 
-  pub sought_acquired : (desk : Desk C) (place : ℕ) (id : CoderId) (r : Acquired) (job new : JobValue) (es : List SlotEntry) (t u : Option (List ℕ)) (a b c : Seats C) → job.coder ≡ None → missing_id job ≡ Some id → StandIn es (entries_of b.slots.me.0.log) → Seeks desk place (Some id) job es t u a b → OnlySlots desk b c
+  pub sought_acquired : (desk : Desk C) (place : ℕ) (id : CoderId) (r : Acquired) (job new : JobValue) (es : List SlotEntry) (t u : Telling) (a b c : Seats C) → job.coder ≡ None → missing_id job ≡ Some id → StandIn es (entries_of b.slots.me.0.log) → Seeks desk place (Some id) job es t u a b → OnlySlots desk b c
       → ((s : Shared) → slice_get desk.codecs.items place ≡ Some s → AcquireGives desk.slots s.codec id r job new b.slots.me.0 c.slots.me.0) → Sought desk place (Some id) new (es ++ made_by r) (lack_of r) t u a c
   sought_acquired desk place id r job new es t u a b c none lacks stand x o gives =
       let xs : List Shared = desk.codecs.items in
@@ -477,7 +477,7 @@ module _ {C : Type 0} where
   }
 
   -- the first acquire
-  pub sought_first : (desk : Desk C) (place : ℕ) (asked : Option CoderId) (id : CoderId) (r : Acquired) (job new : JobValue) (es : List SlotEntry) (t : Option (List ℕ)) (a c : Seats C) → asked ≡ Some id → es ≡ made_by r → job.coder ≡ None → missing_id job ≡ Some id → SitAt desk a → WorksAt desk place asked job [] a → OnlySlots desk a c
+  pub sought_first : (desk : Desk C) (place : ℕ) (asked : Option CoderId) (id : CoderId) (r : Acquired) (job new : JobValue) (es : List SlotEntry) (t : Telling) (a c : Seats C) → asked ≡ Some id → es ≡ made_by r → job.coder ≡ None → missing_id job ≡ Some id → SitAt desk a → WorksAt desk place asked job [] a → OnlySlots desk a c
       → ((s : Shared) → slice_get desk.codecs.items place ≡ Some s → AcquireGives desk.slots s.codec id r job new a.slots.me.0 c.slots.me.0) → Sought desk place asked new es (lack_of r) t t a c
   sought_first desk place asked id r job new es t a c is made none lacks at w o gives =
       let works : WorksAt desk place (Some id) job [] a = subst (λ (z : Option CoderId). WorksAt desk place z job [] a) is w in
@@ -489,11 +489,11 @@ module _ {C : Type 0} where
       → ((s : Shared) → slice_get desk.codecs.items place ≡ Some s → AcquireGives desk.slots s.codec id (acquired.Refused e n) job new a.slots.me.0 c.slots.me.0) → StandIn (e ∷ []) (entries_of c.slots.me.0.log)
   first_stands desk place asked id e n job new a c w gives = refusal_stands desk.slots w.codec.codec id [] e n job new a.slots.me.0 c.slots.me.0 (gives w.codec w.codec_is) tt
 
-  pub stand_meanwhile : (desk : Desk C) (t u : Option (List ℕ)) (es : List SlotEntry) (a b : Seats C) → Meanwhile desk t u a b → StandIn es (entries_of a.slots.me.0.log) → StandIn es (entries_of b.slots.me.0.log)
+  pub stand_meanwhile : (desk : Desk C) (t u : Telling) (es : List SlotEntry) (a b : Seats C) → Meanwhile desk t u a b → StandIn es (entries_of a.slots.me.0.log) → StandIn es (entries_of b.slots.me.0.log)
   stand_meanwhile desk t u es a b m h = stand_since es m.settled.entries a.slots.me.0 b.slots.me.0 m.settled.made h
 
   -- no second acquire was made
-  pub sought_unpicked : (desk : Desk C) (place : ℕ) (id : CoderId) (job : JobValue) (es fs : List SlotEntry) (n : ℕ) (t u v : Option (List ℕ)) (a b c : Seats C) → fs ≡ es → Sought desk place (Some id) job es (Some (lack.NoSlot n)) t u a b → Meanwhile desk u v b c → Sought desk place (Some id) job fs (Some (lack.NoSlot n)) t v a c
+  pub sought_unpicked : (desk : Desk C) (place : ℕ) (id : CoderId) (job : JobValue) (es fs : List SlotEntry) (n : ℕ) (t u v : Telling) (a b c : Seats C) → fs ≡ es → Sought desk place (Some id) job es (Some (lack.NoSlot n)) t u a b → Meanwhile desk u v b c → Sought desk place (Some id) job fs (Some (lack.NoSlot n)) t v a c
   sought_unpicked desk place id job es fs n t u v a b c is x m =
       let made = m.settled.made in
       subst (λ (l : List SlotEntry). Sought desk place (Some id) job l (Some (lack.NoSlot n)) t v a c) (sym is) (record {
@@ -502,7 +502,7 @@ module _ {C : Type 0} where
         lacks = subst (λ (l : List SlotEntry). IsRefusalAt l n id es) (sym (ap (λ (l : Log SlotEntry). entries_of l) made.longer ∙ entries_both b.slots.me.0.log made.more)) (refusal_later (entries_of b.slots.me.0.log) (entries_of made.more) n id es x.lacks);
       })
 
-  pub sought_wanting : (desk : Desk C) (place : ℕ) (id : CoderId) (job : JobValue) (es fs : List SlotEntry) (n : ℕ) (t u v : Option (List ℕ)) (a b c : Seats C) → fs ≡ es → Sought desk place (Some id) job es (Some (lack.NoSlot n)) t u a b → Meanwhile desk u v b c → Sought desk place (Some id) job fs (Some lack.NoMemory) t v a c
+  pub sought_wanting : (desk : Desk C) (place : ℕ) (id : CoderId) (job : JobValue) (es fs : List SlotEntry) (n : ℕ) (t u v : Telling) (a b c : Seats C) → fs ≡ es → Sought desk place (Some id) job es (Some (lack.NoSlot n)) t u a b → Meanwhile desk u v b c → Sought desk place (Some id) job fs (Some lack.NoMemory) t v a c
   sought_wanting desk place id job es fs n t u v a b c is x m =
       subst (λ (l : List SlotEntry). Sought desk place (Some id) job l (Some lack.NoMemory) t v a c) (sym is) (record {
         seeks = seeks_meanwhile desk place (Some id) job es t u v a b c x.seeks m;
@@ -519,7 +519,7 @@ module _ {C : Type 0} where
       → ((s : Shared) (u v : Seat (Option (Locked C)) (View Event)) → P s u v → Names s [] u.me.0 v.me.0)
       → ((s : Shared) (u v : Seat (Option (Locked C)) (View Event)) → P s u v → EndsAt moments s u v)
       → ((s : Shared) (u v : Seat (Option (Locked C)) (View Event)) → P s u v → LeavesItems s u v)
-      → (desk : Desk C) (t now : Option (List ℕ)) (a b : Seats C) (place : ℕ) → SitAt desk a → SitAt desk b → Settled desk a b → OneAt place P desk.codecs.items a.codecs.items b.codecs.items → Given t moments now → Meanwhile desk t now a b
+      → (desk : Desk C) (t now : Telling) (a b : Seats C) (place : ℕ) → SitAt desk a → SitAt desk b → Settled desk a b → OneAt place P desk.codecs.items a.codecs.items b.codecs.items → Given t moments now → Meanwhile desk t now a b
   meanwhile_at P moments names ends leaves desk t now a b place at sits settled one given = record {
     sits = sits;
     settled = settled;
@@ -529,7 +529,7 @@ module _ {C : Type 0} where
         (each_one (SitsAt desk.pool desk.slots.id) LeavesItems (λ n s u h. leaves_none s u) 0 place desk.codecs.items a.codecs.items one.partner one.before one.after at.codecs one.partner_is one.before_is (leaves one.partner one.before one.after one.so));
   }
 
-  pub meanwhile_none : (desk : Desk C) (t : Option (List ℕ)) (a : Seats C) → SitAt desk a → Meanwhile desk t t a a
+  pub meanwhile_none : (desk : Desk C) (t : Telling) (a : Seats C) → SitAt desk a → Meanwhile desk t t a a
   meanwhile_none desk t a at = record {
     sits = at;
     settled = settled_none desk a at;
@@ -538,7 +538,7 @@ module _ {C : Type 0} where
     leaves = each_same (SitsAt desk.pool desk.slots.id) LeavesItems (λ n s u h. leaves_none s u) 0 desk.codecs.items a.codecs.items at.codecs;
   }
 
-  pub meanwhile_then : (desk : Desk C) (t u v : Option (List ℕ)) (a b c : Seats C) → Meanwhile desk t u a b → Meanwhile desk u v b c → Meanwhile desk t v a c
+  pub meanwhile_then : (desk : Desk C) (t u v : Telling) (a b c : Seats C) → Meanwhile desk t u a b → Meanwhile desk u v b c → Meanwhile desk t v a c
   meanwhile_then desk t u v a b c x y = record {
     sits = y.sits;
     settled = settled_then desk a b c x.settled y.settled;
@@ -548,7 +548,7 @@ module _ {C : Type 0} where
   }
 
   -- a clock gave a moment by which nothing was done
-  pub meanwhile_given : (desk : Desk C) (t u : Option (List ℕ)) (moment : ℕ) (a : Seats C) → SitAt desk a → Given t (moment ∷ []) u → Meanwhile desk t u a a
+  pub meanwhile_given : (desk : Desk C) (t u : Telling) (moment : ℕ) (a : Seats C) → SitAt desk a → Given t (moment ∷ []) u → Meanwhile desk t u a a
   meanwhile_given desk t u moment a at given = record {
     sits = at;
     settled = settled_none desk a at;
@@ -584,7 +584,7 @@ module _ {C : Type 0} where
   begun_bare desk place job a b one some = one.so.bare.none (ap is_some (sym one.so.bare.lacks) ∙ some)
 
   -- it may end
-  pub may_end_at : (desk : Desk C) (place : ℕ) (asked : Option CoderId) (job : JobValue) (es : List SlotEntry) (l : Option Lack) (t u : Option (List ℕ)) (a b : Seats C) (d : DoneValue) → Sought desk place asked job es l t u a b → ((s : State) → IsJobOf s job → IsEndOf s d) → stopped_box d.coder ≡ stopped_box job.coder → WorkEnds l job d.ended → MayEndAt desk place d es b
+  pub may_end_at : (desk : Desk C) (place : ℕ) (asked : Option CoderId) (job : JobValue) (es : List SlotEntry) (l : Option Lack) (t u : Telling) (a b : Seats C) (d : DoneValue) → Sought desk place asked job es l t u a b → ((s : State) → IsJobOf s job → IsEndOf s d) → stopped_box d.coder ≡ stopped_box job.coder → WorkEnds l job d.ended → MayEndAt desk place d es b
   may_end_at desk place asked job es l t u a b d x end same ends =
       let w = x.seeks.work in
       record {

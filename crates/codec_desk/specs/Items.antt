@@ -30,7 +30,7 @@ use Rattle.shared_codec.specs.Settles.{SettlesAfter}
 use Rattle.shared_codec.specs.Shared.{Shared, MayEnd}
 use Rattle.shared_codec.specs.Told.{IsTold, asked_in, ending_of}
 use Rattle.shared_codec.specs.Workers.{IsAtWork, MayWork, LackIs, BeginsIn, FinishTells}
-use Rattle.work_moments.specs.Moments.{Given}
+use Rattle.work_moments.specs.Moments.{Telling, Given}
 use Rattle.codec_desk.specs.declared.desk.Desk.{Desk}
 use Rattle.codec_desk.specs.declared.desk.Seats.{Seats}
 use Rattle.codec_desk.specs.Clocks.{Timed}
@@ -116,7 +116,7 @@ module _ {C : Type 0} where
     pub told : IsTold (entries_of a.slots.me.0.log) (ending_of (asked_in (track codec.opening seat.me.0.log)) es (outcome_of d.ended))
 
   -- What one thread did with its seats as items at work stay.
-  pub record Meanwhile (desk : Desk C) (old now : Option (List ℕ)) (a b : Seats C) : Type 0 where
+  pub record Meanwhile (desk : Desk C) (old now : Telling) (a b : Seats C) : Type 0 where
     pub sits : SitAt desk b
     pub settled : Settled desk a b
     pub calls : Calls desk [] a b
@@ -155,7 +155,7 @@ module _ {C : Type 0} where
   ReclaimedIf desk None moment holders a b = IsUnpicked moment holders × (b ≡ a)
   ReclaimedIf desk (Some k) moment holders a b = IsPicked moment holders k × ((made : Option ℕ) × OneAt k (λ s u v. ReclaimOnceTells s moment made u v) desk.codecs.items a.codecs.items b.codecs.items)
 
-  pub record LookedForRoom (desk : Desk C) (picked : Option ℕ) (old now : Option (List ℕ)) (a b : Seats C) : Type 0 where
+  pub record LookedForRoom (desk : Desk C) (picked : Option ℕ) (old now : Telling) (a b : Seats C) : Type 0 where
     pub looked : Seats C
     pub holders : List Holder
     pub saw : SawHolders desk.codecs.items a.codecs.items looked.codecs.items holders
@@ -166,7 +166,7 @@ module _ {C : Type 0} where
   -- ---- a job that seeks a box
 
   -- Since the start of the item of the codec at this place these acquires were made for its job, and items at work stayed.
-  pub record Seeks (desk : Desk C) (place : ℕ) (asked : Option CoderId) (job : JobValue) (es : List SlotEntry) (old now : Option (List ℕ)) (a b : Seats C) : Type 0 where
+  pub record Seeks (desk : Desk C) (place : ℕ) (asked : Option CoderId) (job : JobValue) (es : List SlotEntry) (old now : Telling) (a b : Seats C) : Type 0 where
     pub sits : SitAt desk b
     pub work : WorksAt desk place asked job es b
     pub but : SettledBut desk es a b
@@ -175,7 +175,7 @@ module _ {C : Type 0} where
     pub leaves : Each LeavesItems desk.codecs.items a.codecs.items b.codecs.items
 
   -- It has a box then, or this is why it has none.
-  pub record Sought (desk : Desk C) (place : ℕ) (asked : Option CoderId) (job : JobValue) (es : List SlotEntry) (l : Option Lack) (old now : Option (List ℕ)) (a b : Seats C) : Type 0 where
+  pub record Sought (desk : Desk C) (place : ℕ) (asked : Option CoderId) (job : JobValue) (es : List SlotEntry) (l : Option Lack) (old now : Telling) (a b : Seats C) : Type 0 where
     pub seeks : Seeks desk place asked job es old now a b
     pub may : MayWork l job
     pub lacks : LackIs (entries_of b.slots.me.0.log) asked es l

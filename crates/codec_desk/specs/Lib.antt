@@ -14,3 +14,5 @@ pub mod ItemLaws
 pub mod Rooms
 pub mod Named
 pub mod NamedLaws
+pub mod MadeLaws
+pub mod TallyLaws

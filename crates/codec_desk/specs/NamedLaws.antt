@@ -11,6 +11,7 @@ use Rattle.codec_model.specs.declared.entry.{Call.Call, PromiseState.PromiseStat
 use Rattle.codec_accounts.specs.Bags.{SameBag}
 use Rattle.codec_accounts.specs.BagsLaws.{weigh_append}
 use Rattle.codec_logs.specs.declared.event.Event.{Event}
+use Rattle.work_moments.specs.Moments.{Telling}
 use Rattle.shared_codec.specs.declared.settling.Answer.{Answer}
 use Rattle.shared_codec.specs.Dues.{Called, call_dues}
 use Rattle.shared_codec.specs.Looks.{PromiseTells}
@@ -52,7 +53,7 @@ module _ {S : Type 0} where
   -- ---- steps at one codec
 
   -- an item, a turn and a look are no calls of callers
-  pub worked_calls : (place : ℕ) (result : Option ℕ) (old now : Option (List ℕ)) (xs : List Shared) (us vs : List (Seat (Option S) (View Event))) → OneAt place (λ s u v. WorkTells s result old now u v) xs us vs → SameBag (calls_made xs vs) (calls_made xs us ++ [])
+  pub worked_calls : (place : ℕ) (result : Option ℕ) (old now : Telling) (xs : List Shared) (us vs : List (Seat (Option S) (View Event))) → OneAt place (λ s u v. WorkTells s result old now u v) xs us vs → SameBag (calls_made xs vs) (calls_made xs us ++ [])
   worked_calls place result old now xs us vs one =
       named_one [] (λ s u v. WorkTells s result old now u v) (λ s u v told. work_names s result old now u v told) place xs us vs one
 

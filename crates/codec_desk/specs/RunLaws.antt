@@ -18,6 +18,7 @@ use Rattle.seat_lock.specs.Seats.{Sitting}
 use Rattle.codec_logs.specs.declared.event.Event.{Event}
 use Rattle.codec_logs.specs.Logs.{Track, opening_track, act_in, entry_of, runner_by, track_made, track_from, track}
 use Rattle.codec_logs.specs.LogLaws.{track_append}
+use Rattle.work_moments.specs.Moments.{Telling}
 use Rattle.shared_codec.specs.declared.settling.Answer.{Answer}
 use Rattle.shared_codec.specs.Looks.{PromiseTells}
 use Rattle.shared_codec.specs.Settled.{AnswerTells, TurnOnceTells, ReclaimOnceTells}
@@ -91,7 +92,7 @@ module _ {S : Type 0} where
       (subst (λ (x : Track). IsNoneOf x.runner a.me.0.numbers) (sym (track_append (opening_track s.opening) p.log l)) after)
 
   -- an item, from its start to its end, or a look
-  pub none_worked : (s : Shared) (result : Option ℕ) (old now : Option (List ℕ)) (a b : Seat (Option S) (View Event)) → WorkTells s result old now a b → RunsNone s a → RunsNone s b
+  pub none_worked : (s : Shared) (result : Option ℕ) (old now : Telling) (a b : Seat (Option S) (View Event)) → WorkTells s result old now a b → RunsNone s a → RunsNone s b
   none_worked s None old now a b told none = none_looked s a b told.0.looked none
   none_worked s (Some place) old now a b told none = none_finished s told.done told.acquires told.moment place told.middle b told.finish
 

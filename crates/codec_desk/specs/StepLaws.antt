@@ -19,9 +19,10 @@ use Rattle.shared_codec.specs.Looks.{PromiseTells, HoldingTells}
 use Rattle.shared_codec.specs.Settled.{AnswerTells, TurnOnceTells, ReclaimOnceTells}
 use Rattle.shared_codec.specs.Shared.{Shared, MadeIn, LookedIn, no_mint, no_spend}
 use Rattle.shared_codec.specs.Workers.{BeginsIn, BeginTells, FinishTells, WorkedIn, WorkTells}
-use Rattle.work_moments.specs.Moments.{Given}
+use Rattle.work_moments.specs.Moments.{Telling, Given}
 use Rattle.work_moments.specs.MomentLaws.{given_none}
-use Rattle.codec_desk.specs.Clocks.{moment_of, IfAmong, EndsAt}
+use Rattle.shared_codec.specs.Tallies.{moment_of}
+use Rattle.codec_desk.specs.Clocks.{IfAmong, EndsAt}
 use Rattle.codec_desk.specs.Desks.{SeesMore}
 use Rattle.codec_desk.specs.Rests.{Still, Stirred, Rested, Served, NoItem, NoTask}
 use Rattle.codec_desk.specs.RestLaws.{rested_look, rested_earlier, rested_later, still_rested}
@@ -79,13 +80,13 @@ module _ {S : Type 0} where
   -- ---- steps of threads
 
   -- an item, from its start to its end
-  pub worked_made : (s : Shared) (place : ℕ) (old now : Option (List ℕ)) (a b : Seat (Option S) (View Event)) (told : WorkedIn s place old now a b) → MadeSince a.me.0 b.me.0 (told.begins.started.made.event ∷ told.finish.2.made.event ∷ [])
+  pub worked_made : (s : Shared) (place : ℕ) (old now : Telling) (a b : Seat (Option S) (View Event)) (told : WorkedIn s place old now a b) → MadeSince a.me.0 b.me.0 (told.begins.started.made.event ∷ told.finish.2.made.event ∷ [])
   worked_made s place old now a b told =
       let m = told.begins.started.made in
       let n = told.finish.2.made in
       made_then a.me.0 told.middle.me.0 b.me.0 (m.event ∷ []) (n.event ∷ []) (made_one s _ [] a told.middle m) (made_one s _ told.acquires told.middle b n)
 
-  pub stirred_worked : (result : Option ℕ) (old now : Option (List ℕ)) → is_some result ≡ true → (s : Shared) (a b : Seat (Option S) (View Event)) → WorkTells s result old now a b → Stirred s a b
+  pub stirred_worked : (result : Option ℕ) (old now : Telling) → is_some result ≡ true → (s : Shared) (a b : Seat (Option S) (View Event)) → WorkTells s result old now a b → Stirred s a b
   stirred_worked None old now some s a b told = absurd cc
   stirred_worked (Some place) old now some s a b told = (told.begins.started.made.event, told.finish.2.made.event ∷ [], worked_made s place old now a b told)
 
@@ -93,11 +94,11 @@ module _ {S : Type 0} where
   stirred_turned None some s a b told = absurd cc
   stirred_turned (Some place) some s a b told = (told.2.gave.made.event, [], made_one s _ [] a b told.2.gave.made)
 
-  pub rested_worked : (result : Option ℕ) (old now : Option (List ℕ)) → result ≡ None → (s : Shared) (a b : Seat (Option S) (View Event)) → WorkTells s result old now a b → Rested NoItem s a b
+  pub rested_worked : (result : Option ℕ) (old now : Telling) → result ≡ None → (s : Shared) (a b : Seat (Option S) (View Event)) → WorkTells s result old now a b → Rested NoItem s a b
   rested_worked None old now none s a b told = rested_look NoItem s a b told.0.looked told.0.none
   rested_worked (Some place) old now none s a b told = absurd cc
 
-  pub served_worked : (result : Option ℕ) (old now : Option (List ℕ)) (s : Shared) (a b : Seat (Option S) (View Event)) → WorkTells s result old now a b → Served NoItem s a b
+  pub served_worked : (result : Option ℕ) (old now : Telling) (s : Shared) (a b : Seat (Option S) (View Event)) → WorkTells s result old now a b → Served NoItem s a b
   served_worked None old now s a b told = inl (rested_worked None old now refl s a b told)
   served_worked (Some place) old now s a b told = inr (stirred_worked (Some place) old now refl s a b told)
 
@@ -117,8 +118,8 @@ module _ {S : Type 0} where
   ends_looked : (moments : List ℕ) (s : Shared) (a b : Seat (Option S) (View Event)) → LookedIn s a b → EndsAt moments s a b
   ends_looked moments s a b x = record { events = []; made = made_look s a b x; at = tt }
 
-  pub ends_worked : (result : Option ℕ) (old now : Option (List ℕ)) (s : Shared) (a b : Seat (Option S) (View Event)) → WorkTells s result old now a b → (moments : List ℕ) × Given old moments now × EndsAt moments s a b
-  ends_worked None old now s a b told = ([], subst (λ (o : Option (List ℕ)). Given old [] o) (sym told.1) (given_none old), ends_looked [] s a b told.0.looked)
+  pub ends_worked : (result : Option ℕ) (old now : Telling) (s : Shared) (a b : Seat (Option S) (View Event)) → WorkTells s result old now a b → (moments : List ℕ) × Given old moments now × EndsAt moments s a b
+  ends_worked None old now s a b told = ([], subst (λ (o : Telling). Given old [] o) (sym told.1) (given_none old), ends_looked [] s a b told.0.looked)
   ends_worked (Some place) old now s a b told =
       let m = told.begins.started.made in
       let n = told.finish.2.made in

@@ -1,7 +1,7 @@
 // Waits for the promise of a flush, with help.
 ghost use Rattle.std.specs.Prelude.{◌<◌, [], length};
 ghost use Rattle.flush_promise.specs.Promises.{EndsAs};
-ghost use Rattle.codec_desk.specs.Clocks.{Timed};
+ghost use Rattle.codec_desk.specs.Clocks.{Clocked};
 ghost use Rattle.codec_desk.specs.Desks.{SitAt, Settled};
 ghost use Rattle.codec_desk.specs.Each.{IsAt};
 ghost use Rattle.codec_desk.specs.Named.{Calls};
@@ -36,7 +36,7 @@ fn help_if<C: Coder, K: Clock, G: Gate, R: Wait>(
     ensures calls { Calls desk.now [] seats.old seats.new }
     ensures runs { EachRunsNone desk.now.codecs.items seats.old.codecs.items
         → EachRunsNone desk.now.codecs.items seats.new.codecs.items }
-    ensures timed { Timed desk.now seats.old seats.new (K.told clock.old) (K.told clock.new) }
+    ensures timed { Clocked desk.now seats.old seats.new (K.told clock.old) (K.told clock.new) }
 {
     if !over {
         return false;
@@ -68,7 +68,7 @@ pub fn await_helping<C: Coder, K: Clock, G: Gate, R: Wait>(
         → EachRunsNone desk.now.codecs.items seats.new.codecs.items }
     ensures ended { IsAt codec (Looked (EndsAs promise result))
         desk.now.codecs.items seats.old.codecs.items seats.new.codecs.items }
-    ensures timed { Timed desk.now seats.old seats.new (K.told clock.old) (K.told clock.new) }
+    ensures timed { Clocked desk.now seats.old seats.new (K.told clock.old) (K.told clock.new) }
 {
     let mut patience = Patience::new();
     for _ in rt.forever() {

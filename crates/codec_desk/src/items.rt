@@ -13,8 +13,8 @@ ghost use Rattle.shared_codec.specs.Told.{StandIn};
 ghost use Rattle.shared_codec.specs.Workers.{AcquireGives, BeginTells};
 ghost use Rattle.shared_pool.specs.Steps as pools;
 ghost use Rattle.shared_slots.specs.Steps as registries;
-ghost use Rattle.work_moments.specs.Moments.{Given};
-ghost use Rattle.codec_desk.specs.Clocks.{Timed};
+ghost use Rattle.work_moments.specs.Moments.{Telling, Given};
+ghost use Rattle.codec_desk.specs.Clocks.{Clocked};
 ghost use Rattle.codec_desk.specs.Desks.{SitAt, Settled};
 ghost use Rattle.codec_desk.specs.Each.{OneAt, IsAt};
 ghost use Rattle.codec_desk.specs.Items.{EndsIn, MayEndAt, Meanwhile, OnlySlots, Seeks, Sought, WorksAt};
@@ -48,7 +48,7 @@ pub(crate) fn look_at_holding<C: Coder, R: Wait>(
     requires codec { codec < length desk.now.codecs.items }
     ensures looked { OneAt codec (λ s a b. HoldingTells s result a b)
         desk.now.codecs.items seats.old.codecs.items seats.new.codecs.items }
-    ensures meanwhile { (t : Option (List ℕ))
+    ensures meanwhile { (t : Telling)
         → Meanwhile desk.now t t seats.old seats.new }
 {
     dues_add_up();
@@ -67,7 +67,7 @@ pub(crate) fn reclaim_codec<C: Coder, R: Wait>(
     requires codec { codec < length desk.now.codecs.items }
     ensures reclaimed { OneAt codec (λ s a b. ReclaimOnceTells s now result a b)
         desk.now.codecs.items seats.old.codecs.items seats.new.codecs.items }
-    ensures meanwhile { (t u : Option (List ℕ)) → Given t (now ∷ []) u
+    ensures meanwhile { (t u : Telling) → Given t (now ∷ []) u
         → Meanwhile desk.now t u seats.old seats.new }
 {
     dues_add_up();
@@ -139,7 +139,7 @@ fn acquire_again<C: Coder, R: Wait>(
     ensures acquires { (r : Acquired)
         × AcquiresOnce desk.now codec id r job.old job.new seats.old seats.new
         × (acquires_of result.acquires ≡ first ∷ made_by r) × (result.lack ≡ lack_of r) }
-    ensures sought { (t u : Option (List ℕ)) (a : Seats C)
+    ensures sought { (t u : Telling) (a : Seats C)
         → Seeks desk.now codec (Some id) job.old (first ∷ []) t u a seats.old
         → Sought desk.now codec (Some id) job.new (acquires_of result.acquires) result.lack
         t u a seats.new }
@@ -182,7 +182,7 @@ fn seek_again<C: Coder, K: Clock, R: Wait>(
     ensures again { SoughtAgain desk.now codec id first place job.old job.new
         (acquires_of result.acquires) result.lack
         (K.told clock.old) (K.told clock.new) seats.old seats.new }
-    ensures sought { (t : Option (List ℕ)) (a : Seats C)
+    ensures sought { (t : Telling) (a : Seats C)
         → Sought desk.now codec (Some id) job.old (first ∷ []) (Some (lack.NoSlot place))
         t (K.told clock.old) a seats.old
         → Sought desk.now codec (Some id) job.new (acquires_of result.acquires) result.lack
@@ -280,8 +280,8 @@ fn end_item<C: Coder, R: Wait>(
 }
 
 /// One item of a codec, from its start to its end: its box, the gate, its work, and what its end lets go. Where its box is not free
-/// it looks at each codec, and one that may be reclaimed is, before a second acquire. The moment of the end is one that the clock
-/// gave after the work. None exactly where no item may start; else the seats made an entry. Answers the place of the end.
+/// it looks at each codec, and one that may be reclaimed is, before a second acquire. An item that has no box ends for what it
+/// lacks, and else as its codec's definition answers. The moment of the end is one that the clock gave after the work. None exactly where no item may start; else the seats made an entry. Answers the place of the end.
 pub fn work_item<C: Coder, K: Clock, G: Gate, R: Wait>(
     rt: &R,
     alloc: Global,
@@ -306,7 +306,7 @@ pub fn work_item<C: Coder, K: Clock, G: Gate, R: Wait>(
     ensures calls { Calls desk.now [] seats.old seats.new }
     ensures runs { EachRunsNone desk.now.codecs.items seats.old.codecs.items
         → EachRunsNone desk.now.codecs.items seats.new.codecs.items }
-    ensures timed { Timed desk.now seats.old seats.new (K.told clock.old) (K.told clock.new) }
+    ensures timed { Clocked desk.now seats.old seats.new (K.told clock.old) (K.told clock.new) }
 {
     dues_add_up();
     let Some(mut job) = start_item(rt, desk, seats, codec) else {

@@ -1,6 +1,6 @@
 // Loops of workers and of turners.
 ghost use Rattle.std.specs.Prelude.{[]};
-ghost use Rattle.codec_desk.specs.Clocks.{EndsAt, Timed};
+ghost use Rattle.codec_desk.specs.Clocks.{EndsAt, Clocked};
 ghost use Rattle.codec_desk.specs.Desks.{SitAt, Settled};
 ghost use Rattle.codec_desk.specs.Each.{Each};
 ghost use Rattle.codec_desk.specs.Named.{Calls};
@@ -36,7 +36,7 @@ pub fn item_loop<C: Coder, K: Clock, G: Gate, R: Wait>(
         → EachRunsNone desk.now.codecs.items seats.new.codecs.items }
     ensures looked { Each (Looked NoItem)
         desk.now.codecs.items seats.old.codecs.items seats.new.codecs.items }
-    ensures timed { Timed desk.now seats.old seats.new (K.told clock.old) (K.told clock.new) }
+    ensures timed { Clocked desk.now seats.old seats.new (K.told clock.old) (K.told clock.new) }
 {
     let mut rested = 0;
     for _ in rt.forever() {

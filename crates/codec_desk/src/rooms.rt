@@ -1,5 +1,6 @@
 // Room for a box: a codec that holds a coder is reclaimed.
 ghost use Rattle.std.specs.Prelude.{ℕ, ◌≡◌, ◌+◌, ◌≤◌, ◌<◌, ◌++◌, [], List, Option, length, vec_capacity};
+ghost use Rattle.work_moments.specs.Moments.{Telling};
 ghost use Rattle.codec_desk.specs.Desks.{SitAt};
 ghost use Rattle.codec_desk.specs.Items.{Meanwhile, SawHolders, holder_if};
 ghost use Rattle.codec_desk.specs.Rooms.{RoomTells};
@@ -56,7 +57,7 @@ fn look_at_holders<C: Coder, R: Wait>(
     requires room { length desk.now.codecs.items ≤ vec_capacity holders.old }
     ensures saw { SawHolders desk.now.codecs.items
         seats.old.codecs.items seats.new.codecs.items holders.new.items }
-    ensures meanwhile { (t : Option (List ℕ))
+    ensures meanwhile { (t : Telling)
         → Meanwhile desk.now t t seats.old seats.new }
 {
     for codec in 0..desk.codecs.len() {

@@ -1,6 +1,6 @@
 // Rounds over all codecs of a desk.
 ghost use Rattle.std.specs.Prelude.{◌≡◌, ◌⊎◌, true, false, [], None, is_some};
-ghost use Rattle.codec_desk.specs.Clocks.{EndsAt, Timed};
+ghost use Rattle.codec_desk.specs.Clocks.{EndsAt, Clocked};
 ghost use Rattle.codec_desk.specs.Desks.{SitAt, Settled};
 ghost use Rattle.codec_desk.specs.Each.{Each, AtSome};
 ghost use Rattle.codec_desk.specs.Named.{Calls};
@@ -46,7 +46,7 @@ pub fn item_round<C: Coder, K: Clock, G: Gate, R: Wait>(
         desk.now.codecs.items seats.old.codecs.items seats.new.codecs.items }
     ensures stirred { result ≡ true → AtSome Stirred
         desk.now.codecs.items seats.old.codecs.items seats.new.codecs.items }
-    ensures timed { Timed desk.now seats.old seats.new (K.told clock.old) (K.told clock.new) }
+    ensures timed { Clocked desk.now seats.old seats.new (K.told clock.old) (K.told clock.new) }
 {
     let mut found = false;
     for codec in 0..desk.codecs.len() {

@@ -1,13 +1,13 @@
 use Rattle.std.proofs.Common.{◌∙◌, [], ap, sym}
 use Rattle.flush_promise.specs.Ends.{state_of}
 use Rattle.codec_desk.specs.DeskLaws.{settled_none, settled_then}
-use Rattle.codec_desk.specs.ClockLaws.{timed_none, timed_then, timed_rest}
+use Rattle.codec_desk.specs.TallyLaws.{clocked_none, clocked_then, clocked_rest}
 use Rattle.codec_desk.specs.NamedLaws.{calls_none, calls_then}
 use Rattle.codec_desk.proofs.Going.{saw_earlier, look_ends}
 use Rattle.codec_desk.proofs.helping.await_helping.Goals as goal
 
 pub loop-init : goal.loop-init
-loop-init g c = (tt, tt, c.requires.sits, settled_none c.args.desk.now c.args.seats.now c.requires.sits, λ none. none, timed_none c.args.desk.now c.args.seats.now (g.K.Clock.told c.args.clock.now) c.requires.sits, calls_none c.args.desk.now c.args.seats.now)
+loop-init g c = (tt, tt, c.requires.sits, settled_none c.args.desk.now c.args.seats.now c.requires.sits, λ none. none, clocked_none c.args.desk.now c.args.seats.now (g.K.Clock.told c.args.clock.now) c.requires.sits, calls_none c.args.desk.now c.args.seats.now)
 
 pub look_at_promise-entries-requires-clause-sits : goal.look_at_promise-entries-requires-clause-sits
 look_at_promise-entries-requires-clause-sits g c κs within = c.loop.invariant.2
@@ -25,9 +25,9 @@ loop-preserved g c =
           (settled_then desk c.args.seats.now c.loop.seats c.look_at_promise-entries.new.seats c.loop.invariant.3 c.look_at_promise-entries.ensures.settled)
           c.help_if-found.ensures.settled,
       λ none. c.help_if-found.ensures.runs (c.look_at_promise-entries.ensures.runs (c.loop.invariant.4 none)),
-      timed_then desk c.args.seats.now c.look_at_promise-entries.new.seats c.help_if-found.new.seats (g.K.Clock.told c.args.clock.now) (g.K.Clock.told c.loop.clock) (g.K.Clock.told c.help_if-found.new.clock)
-          (timed_then desk c.args.seats.now c.loop.seats c.look_at_promise-entries.new.seats (g.K.Clock.told c.args.clock.now) (g.K.Clock.told c.loop.clock) (g.K.Clock.told c.loop.clock) c.loop.invariant.5
-          (timed_rest c.args.desk.now c.loop.seats c.look_at_promise-entries.new.seats (g.K.Clock.told c.loop.clock) (look_ends c.args.desk.now.pool c.args.desk.now.slots.id c.args.codec c.args.promise c.look_at_promise-entries.result c.args.desk.now.codecs.items c.loop.seats.codecs.items c.look_at_promise-entries.new.seats.codecs.items c.loop.invariant.2.codecs c.look_at_promise-entries.ensures.looked)))
+      clocked_then desk c.args.seats.now c.look_at_promise-entries.new.seats c.help_if-found.new.seats (g.K.Clock.told c.args.clock.now) (g.K.Clock.told c.loop.clock) (g.K.Clock.told c.help_if-found.new.clock)
+          (clocked_then desk c.args.seats.now c.loop.seats c.look_at_promise-entries.new.seats (g.K.Clock.told c.args.clock.now) (g.K.Clock.told c.loop.clock) (g.K.Clock.told c.loop.clock) c.loop.invariant.5
+          (clocked_rest c.args.desk.now c.loop.seats c.look_at_promise-entries.new.seats (g.K.Clock.told c.loop.clock) (look_ends c.args.desk.now.pool c.args.desk.now.slots.id c.args.codec c.args.promise c.look_at_promise-entries.result c.args.desk.now.codecs.items c.loop.seats.codecs.items c.look_at_promise-entries.new.seats.codecs.items c.loop.invariant.2.codecs c.look_at_promise-entries.ensures.looked)))
           c.help_if-found.ensures.timed,
       calls_then desk c.args.seats.now c.look_at_promise-entries.new.seats c.help_if-found.new.seats [] []
           (calls_then desk c.args.seats.now c.loop.seats c.look_at_promise-entries.new.seats [] [] c.loop.invariant.6 c.look_at_promise-entries.ensures.calls) c.help_if-found.ensures.calls,
@@ -49,8 +49,8 @@ returns-in-Some-of-clause-runs g c none = c.look_at_promise-entries.ensures.runs
 
 pub returns-in-Some-of-clause-timed : goal.returns-in-Some-of-clause-timed
 returns-in-Some-of-clause-timed g c =
-    timed_then c.args.desk.now c.args.seats.now c.loop.seats c.look_at_promise-entries.new.seats (g.K.Clock.told c.args.clock.now) (g.K.Clock.told c.loop.clock) (g.K.Clock.told c.loop.clock) c.loop.invariant.5
-    (timed_rest c.args.desk.now c.loop.seats c.look_at_promise-entries.new.seats (g.K.Clock.told c.loop.clock) (look_ends c.args.desk.now.pool c.args.desk.now.slots.id c.args.codec c.args.promise c.look_at_promise-entries.result c.args.desk.now.codecs.items c.loop.seats.codecs.items c.look_at_promise-entries.new.seats.codecs.items c.loop.invariant.2.codecs c.look_at_promise-entries.ensures.looked))
+    clocked_then c.args.desk.now c.args.seats.now c.loop.seats c.look_at_promise-entries.new.seats (g.K.Clock.told c.args.clock.now) (g.K.Clock.told c.loop.clock) (g.K.Clock.told c.loop.clock) c.loop.invariant.5
+    (clocked_rest c.args.desk.now c.loop.seats c.look_at_promise-entries.new.seats (g.K.Clock.told c.loop.clock) (look_ends c.args.desk.now.pool c.args.desk.now.slots.id c.args.codec c.args.promise c.look_at_promise-entries.result c.args.desk.now.codecs.items c.loop.seats.codecs.items c.look_at_promise-entries.new.seats.codecs.items c.loop.invariant.2.codecs c.look_at_promise-entries.ensures.looked))
 
 pub returns-in-Some-of-clause-calls : goal.returns-in-Some-of-clause-calls
 returns-in-Some-of-clause-calls g c = calls_then c.args.desk.now c.args.seats.now c.loop.seats c.look_at_promise-entries.new.seats [] [] c.loop.invariant.6 c.look_at_promise-entries.ensures.calls

@@ -1,5 +1,5 @@
 use Rattle.std.proofs.Common.{[]}
-use Rattle.codec_desk.specs.ClockLaws.{timed_none, timed_then, timed_rest}
+use Rattle.codec_desk.specs.TallyLaws.{clocked_none, clocked_then, clocked_rest}
 use Rattle.codec_desk.specs.DeskLaws.{settled_none, settled_then}
 use Rattle.codec_desk.specs.NamedLaws.{calls_none, calls_then}
 use Rattle.codec_desk.proofs.Going.{turn_ends}
@@ -20,8 +20,8 @@ returns-clause-runs g c none = c.turn_once-turned.ensures.runs (c.work_item-work
 pub returns-clause-timed : goal.returns-clause-timed
 returns-clause-timed g c =
     let desk = c.args.desk.now in
-    timed_then desk c.args.seats.now c.work_item-worked.new.seats c.turn_once-turned.new.seats (g.K.Clock.told c.args.clock.now) (g.K.Clock.told c.work_item-worked.new.clock) (g.K.Clock.told c.work_item-worked.new.clock) c.work_item-worked.ensures.timed
-    (timed_rest desk c.work_item-worked.new.seats c.turn_once-turned.new.seats (g.K.Clock.told c.work_item-worked.new.clock) (turn_ends desk.pool desk.slots.id c.args.codec c.turn_once-turned.result desk.codecs.items c.work_item-worked.new.seats.codecs.items c.turn_once-turned.new.seats.codecs.items c.work_item-worked.ensures.sits.codecs c.turn_once-turned.ensures.turned))
+    clocked_then desk c.args.seats.now c.work_item-worked.new.seats c.turn_once-turned.new.seats (g.K.Clock.told c.args.clock.now) (g.K.Clock.told c.work_item-worked.new.clock) (g.K.Clock.told c.work_item-worked.new.clock) c.work_item-worked.ensures.timed
+    (clocked_rest desk c.work_item-worked.new.seats c.turn_once-turned.new.seats (g.K.Clock.told c.work_item-worked.new.clock) (turn_ends desk.pool desk.slots.id c.args.codec c.turn_once-turned.result desk.codecs.items c.work_item-worked.new.seats.codecs.items c.turn_once-turned.new.seats.codecs.items c.work_item-worked.ensures.sits.codecs c.turn_once-turned.ensures.turned))
 
 pub returns-clause-calls : goal.returns-clause-calls
 returns-clause-calls g c = calls_then c.args.desk.now c.args.seats.now c.work_item-worked.new.seats c.turn_once-turned.new.seats [] [] c.work_item-worked.ensures.calls c.turn_once-turned.ensures.calls
@@ -30,7 +30,7 @@ pub returns-then-not-over-clause-settled : goal.returns-then-not-over-clause-set
 returns-then-not-over-clause-settled g c = settled_none c.args.desk.now c.args.seats.now c.requires.sits
 
 pub returns-then-not-over-clause-timed : goal.returns-then-not-over-clause-timed
-returns-then-not-over-clause-timed g c = timed_none c.args.desk.now c.args.seats.now (g.K.Clock.told c.args.clock.now) c.requires.sits
+returns-then-not-over-clause-timed g c = clocked_none c.args.desk.now c.args.seats.now (g.K.Clock.told c.args.clock.now) c.requires.sits
 
 pub returns-then-not-over-clause-calls : goal.returns-then-not-over-clause-calls
 returns-then-not-over-clause-calls g c = calls_none c.args.desk.now c.args.seats.now

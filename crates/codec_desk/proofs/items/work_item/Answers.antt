@@ -14,6 +14,7 @@ use Rattle.codec_desk.specs.Rests.{Rested, Served, Stirred, NoItem}
 use Rattle.codec_desk.specs.RestLaws.{rested_look}
 use Rattle.codec_desk.specs.RunLaws.{none_at, none_looked}
 use Rattle.codec_desk.specs.StepLaws.{stirred_then, stirred_begun, ends_begun, ends_finished}
+use Rattle.codec_desk.specs.TallyLaws.{clocked_rest, few_item}
 use Rattle.codec_desk.proofs.items.work_item.Goals as goal
 
 -- ---- no item could start
@@ -36,7 +37,7 @@ returns-in_default-clause-runs g c was =
 
 pub returns-in_default-clause-timed : goal.returns-in_default-clause-timed
 returns-in_default-clause-timed g c =
-    timed_rest c.args.desk.now c.args.seats.now c.start_item.new.seats (g.K.Clock.told c.args.clock.now) (ends_one [] (λ s a b. BeginTells s None a b) (ends_begun None) c.args.desk.now.pool c.args.desk.now.slots.id c.args.codec c.args.desk.now.codecs.items c.args.seats.now.codecs.items c.start_item.new.seats.codecs.items c.requires.sits.codecs c.in_default.ensures.begins)
+    clocked_rest c.args.desk.now c.args.seats.now c.start_item.new.seats (g.K.Clock.told c.args.clock.now) (ends_one [] (λ s a b. BeginTells s None a b) (ends_begun None) c.args.desk.now.pool c.args.desk.now.slots.id c.args.codec c.args.desk.now.codecs.items c.args.seats.now.codecs.items c.start_item.new.seats.codecs.items c.requires.sits.codecs c.in_default.ensures.begins)
 
 -- ---- an item from its start to its end
 
@@ -80,12 +81,6 @@ pub returns-clause-runs : goal.returns-clause-runs
 returns-clause-runs g c was =
     runs_ended c.args.desk.now c.args.codec c.in-Some.job (acquires_of c.seek_box-tried.result.acquires) c.work_job-done.result c.now-moment.result c.end_item.result c.seek_box-tried.new.seats.slots.me.0 c.end_item.new.seats.slots.me.0 c.seek_box-tried.new.seats.pool.me.0 c.end_item.new.seats.pool.me.0 c.args.seats.now c.start_item.new.seats c.seek_box-tried.new.seats c.end_item.new.seats c.requires.sits c.seek_box-tried.ensures.sits (one_so (λ s a b. BeginTells s (Some c.in-Some.job) a b) (Begun c.in-Some.job) (λ s a b told. told) c.args.codec c.args.desk.now.codecs.items c.args.seats.now.codecs.items c.start_item.new.seats.codecs.items c.in-Some.ensures.begins) c.seek_box-tried.ensures.sought.seeks.leaves c.end_item.ensures.ends was
 
-pub returns-clause-timed : goal.returns-clause-timed
-returns-clause-timed g c =
-    timed_then c.args.desk.now c.args.seats.now c.seek_box-tried.new.seats c.end_item.new.seats (g.K.Clock.told c.args.clock.now) (g.K.Clock.told c.seek_box-tried.new.clock) (g.K.Clock.told c.now-moment.new.self)
-    (timed_then c.args.desk.now c.args.seats.now c.start_item.new.seats c.seek_box-tried.new.seats (g.K.Clock.told c.args.clock.now) (g.K.Clock.told c.args.clock.now) (g.K.Clock.told c.seek_box-tried.new.clock) (timed_rest c.args.desk.now c.args.seats.now c.start_item.new.seats (g.K.Clock.told c.args.clock.now) (ends_one [] (Begun c.in-Some.job) (ends_begun (Some c.in-Some.job)) c.args.desk.now.pool c.args.desk.now.slots.id c.args.codec c.args.desk.now.codecs.items c.args.seats.now.codecs.items c.start_item.new.seats.codecs.items c.requires.sits.codecs (one_so (λ s a b. BeginTells s (Some c.in-Some.job) a b) (Begun c.in-Some.job) (λ s a b told. told) c.args.codec c.args.desk.now.codecs.items c.args.seats.now.codecs.items c.start_item.new.seats.codecs.items c.in-Some.ensures.begins))) c.seek_box-tried.ensures.sought.seeks.timed)
-    (timed_by c.args.desk.now c.seek_box-tried.new.seats c.end_item.new.seats (g.K.Clock.told c.seek_box-tried.new.clock) (g.K.Clock.told c.now-moment.new.self) c.now-moment.result c.now-moment.ensures (ends_one (c.now-moment.result ∷ []) (EndsIn (acquires_of c.seek_box-tried.result.acquires) c.work_job-done.result c.now-moment.result c.end_item.result c.seek_box-tried.new.seats.slots.me.0 c.end_item.new.seats.slots.me.0 c.seek_box-tried.new.seats.pool.me.0 c.end_item.new.seats.pool.me.0) (λ s a b told. ends_finished c.work_job-done.result (acquires_of c.seek_box-tried.result.acquires) c.now-moment.result c.end_item.result s a b told.finish) c.args.desk.now.pool c.args.desk.now.slots.id c.args.codec c.args.desk.now.codecs.items c.seek_box-tried.new.seats.codecs.items c.end_item.new.seats.codecs.items c.seek_box-tried.ensures.sits.codecs c.end_item.ensures.ends))
-
 pub returns-clause-worked : goal.returns-clause-worked
 returns-clause-worked g c = record {
   job = c.in-Some.job;
@@ -98,9 +93,19 @@ returns-clause-worked g c = record {
   ready = c.seek_box-tried.new.seats;
   box = c.seek_box-tried.ensures.boxed;
   done = c.work_job-done.result;
+  how = c.work_job-done.ensures.ends;
   moment = c.now-moment.result;
   given = c.now-moment.ensures;
   ends = c.end_item.ensures.ends;
+}
+
+pub returns-clause-timed : goal.returns-clause-timed
+returns-clause-timed g c = record {
+  timed =
+      timed_then c.args.desk.now c.args.seats.now c.seek_box-tried.new.seats c.end_item.new.seats (g.K.Clock.told c.args.clock.now) (g.K.Clock.told c.seek_box-tried.new.clock) (g.K.Clock.told c.now-moment.new.self)
+      (timed_then c.args.desk.now c.args.seats.now c.start_item.new.seats c.seek_box-tried.new.seats (g.K.Clock.told c.args.clock.now) (g.K.Clock.told c.args.clock.now) (g.K.Clock.told c.seek_box-tried.new.clock) (timed_rest c.args.desk.now c.args.seats.now c.start_item.new.seats (g.K.Clock.told c.args.clock.now) (ends_one [] (Begun c.in-Some.job) (ends_begun (Some c.in-Some.job)) c.args.desk.now.pool c.args.desk.now.slots.id c.args.codec c.args.desk.now.codecs.items c.args.seats.now.codecs.items c.start_item.new.seats.codecs.items c.requires.sits.codecs (one_so (λ s a b. BeginTells s (Some c.in-Some.job) a b) (Begun c.in-Some.job) (λ s a b told. told) c.args.codec c.args.desk.now.codecs.items c.args.seats.now.codecs.items c.start_item.new.seats.codecs.items c.in-Some.ensures.begins))) c.seek_box-tried.ensures.sought.seeks.timed)
+      (timed_by c.args.desk.now c.seek_box-tried.new.seats c.end_item.new.seats (g.K.Clock.told c.seek_box-tried.new.clock) (g.K.Clock.told c.now-moment.new.self) c.now-moment.result c.now-moment.ensures (ends_one (c.now-moment.result ∷ []) (EndsIn (acquires_of c.seek_box-tried.result.acquires) c.work_job-done.result c.now-moment.result c.end_item.result c.seek_box-tried.new.seats.slots.me.0 c.end_item.new.seats.slots.me.0 c.seek_box-tried.new.seats.pool.me.0 c.end_item.new.seats.pool.me.0) (λ s a b told. ends_finished c.work_job-done.result (acquires_of c.seek_box-tried.result.acquires) c.now-moment.result c.end_item.result s a b told.finish) c.args.desk.now.pool c.args.desk.now.slots.id c.args.codec c.args.desk.now.codecs.items c.seek_box-tried.new.seats.codecs.items c.end_item.new.seats.codecs.items c.seek_box-tried.ensures.sits.codecs c.end_item.ensures.ends));
+  few = few_item c.args.desk.now c.args.codec c.end_item.result (g.K.Clock.told c.args.clock.now) (g.K.Clock.told c.now-moment.new.self) c.args.seats.now c.end_item.new.seats (returns-clause-worked g c);
 }
 
 pub returns-in_default-clause-worked : goal.returns-in_default-clause-worked

@@ -1,7 +1,8 @@
-use Rattle.std.proofs.Common.{◌≡◌, ◌+◌, ◌++◌, ◌∷◌, [], List, Some, length, length-append, refl, ap, sym, ◌∙◌, arith, None}
+use Rattle.std.proofs.Common.{◌≡◌, ◌+◌, ◌++◌, ◌∷◌, [], List, Some, length, length-append, refl, ap, sym, ◌∙◌, arith}
 use Rattle.std.specs.Prelude.{slice_get}
 use Rattle.std.proofs.lemmas.Option.{slice_get_read}
 use Rattle.reclaimer.specs.declared.holder.Holder.{Holder}
+use Rattle.work_moments.specs.Moments.{silent}
 use Rattle.codec_desk.specs.Items.{holder_if}
 use Rattle.codec_desk.specs.ItemLaws.{meanwhile_none, meanwhile_then, saw_more, holders_more, holders_few, number_at}
 use Rattle.codec_desk.proofs.rooms.look_at_holders.Goals as goal
@@ -16,7 +17,7 @@ loop-codec-init g c = record {
 }
 
 pub look_at_holding-seen-requires-clause-sits : goal.look_at_holding-seen-requires-clause-sits
-look_at_holding-seen-requires-clause-sits g c κs within = (c.loop-codec.invariant.meanwhile None).sits
+look_at_holding-seen-requires-clause-sits g c κs within = (c.loop-codec.invariant.meanwhile silent).sits
 
 pub look_at_holding-seen-requires-clause-codec : goal.look_at_holding-seen-requires-clause-codec
 look_at_holding-seen-requires-clause-codec g c =

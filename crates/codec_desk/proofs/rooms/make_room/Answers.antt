@@ -1,6 +1,7 @@
-use Rattle.std.proofs.Common.{List, None, refl, subst}
+use Rattle.std.proofs.Common.{List, refl, subst}
 use Rattle.reclaimer.specs.declared.holder.Holder.{Holder}
 use Rattle.reclaimer.specs.Picks.{IsPicked, IsUnpicked}
+use Rattle.work_moments.specs.Moments.{silent}
 use Rattle.codec_desk.specs.ItemLaws.{meanwhile_none, meanwhile_then, meanwhile_given, picked_within}
 use Rattle.codec_desk.proofs.rooms.make_room.Goals as goal
 
@@ -11,7 +12,7 @@ pub look_at_holders-requires-clause-sits : goal.look_at_holders-requires-clause-
 look_at_holders-requires-clause-sits g c κs within = c.requires
 
 pub reclaim_codec-requires-clause-sits : goal.reclaim_codec-requires-clause-sits
-reclaim_codec-requires-clause-sits g c κs within = (c.look_at_holders.ensures.meanwhile None).sits
+reclaim_codec-requires-clause-sits g c κs within = (c.look_at_holders.ensures.meanwhile silent).sits
 
 pub reclaim_codec-requires-clause-codec : goal.reclaim_codec-requires-clause-codec
 reclaim_codec-requires-clause-codec g c κs within =

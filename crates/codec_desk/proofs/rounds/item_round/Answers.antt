@@ -1,5 +1,5 @@
 use Rattle.std.proofs.Common.{◌∙◌, [], ⊎_elim, arith}
-use Rattle.codec_desk.specs.ClockLaws.{timed_none, timed_then}
+use Rattle.codec_desk.specs.TallyLaws.{clocked_none, clocked_then}
 use Rattle.codec_desk.specs.DeskLaws.{settled_none, settled_then}
 use Rattle.codec_desk.specs.NamedLaws.{calls_none, calls_then}
 use Rattle.codec_desk.specs.Rests.{NoItem}
@@ -17,7 +17,7 @@ loop-codec-init g c = record {
   rested = λ none. round_none NoItem c.args.desk.now.pool c.args.desk.now.slots.id c.args.desk.now.codecs.items c.args.seats.now.codecs.items c.requires.codecs;
   served = serves_none NoItem c.args.desk.now.pool c.args.desk.now.slots.id c.args.desk.now.codecs.items c.args.seats.now.codecs.items c.requires.codecs;
   stirred = λ yes. absurd cc;
-  timed = timed_none c.args.desk.now c.args.seats.now (g.K.Clock.told c.args.clock.now) c.requires;
+  timed = clocked_none c.args.desk.now c.args.seats.now (g.K.Clock.told c.args.clock.now) c.requires;
 }
 
 pub work_item-worked-requires-clause-sits : goal.work_item-worked-requires-clause-sits
@@ -48,7 +48,7 @@ loop-codec-preserved g c =
           (λ was. stir_then c.args.desk.now.codecs.items c.args.seats.now.codecs.items c.loop-codec.seats.codecs.items c.work_item-worked.new.seats.codecs.items (i.stirred was) e.settled.seats)
           (λ is. stir_at c.loop-codec.codec c.args.desk.now.codecs.items c.args.seats.now.codecs.items c.loop-codec.seats.codecs.items c.work_item-worked.new.seats.codecs.items i.settled.seats (e.stirs is))
           (c.found_or-found.ensures.some yes);
-      timed = timed_then c.args.desk.now c.args.seats.now c.loop-codec.seats c.work_item-worked.new.seats (g.K.Clock.told c.args.clock.now) (g.K.Clock.told c.loop-codec.clock) (g.K.Clock.told c.work_item-worked.new.clock) i.timed e.timed;
+      timed = clocked_then c.args.desk.now c.args.seats.now c.loop-codec.seats c.work_item-worked.new.seats (g.K.Clock.told c.args.clock.now) (g.K.Clock.told c.loop-codec.clock) (g.K.Clock.told c.work_item-worked.new.clock) i.timed e.timed;
     }
 
 pub returns-clause-sits : goal.returns-clause-sits

@@ -1,5 +1,5 @@
 use Rattle.std.proofs.Common.{◌≡◌, ◌≤◌, [], length, true, false}
-use Rattle.codec_desk.specs.Clocks.{Timed}
+use Rattle.codec_desk.specs.Clocks.{Clocked}
 use Rattle.codec_desk.specs.Desks.{SitAt, SeesMore, Settled}
 use Rattle.codec_desk.specs.Each.{First, AtSome}
 use Rattle.codec_desk.specs.Named.{Calls}
@@ -20,5 +20,5 @@ invariant-loop-codec g l = record {
   rested : l.found ≡ false → First (Rested NoItem) Still l.codec l.fn.desk.codecs.items l.fn.seats.codecs.items l.seats.codecs.items;
   served : First (Serves NoItem) SeesMore l.codec l.fn.desk.codecs.items l.fn.seats.codecs.items l.seats.codecs.items;
   stirred : l.found ≡ true → AtSome Stirred l.fn.desk.codecs.items l.fn.seats.codecs.items l.seats.codecs.items;
-  timed : Timed l.fn.desk l.fn.seats l.seats (g.K.Clock.told l.fn.clock) (g.K.Clock.told l.clock);
+  timed : Clocked l.fn.desk l.fn.seats l.seats (g.K.Clock.told l.fn.clock) (g.K.Clock.told l.clock);
 }
