@@ -3,6 +3,7 @@ mod Asked
 mod Calling
 mod Doing
 mod Encoding
+mod Ends
 mod Growing
 mod Histories
 mod Lent

@@ -1,7 +1,9 @@
 // All kinds of steps of callers.
-ghost use Rattle.std.specs.Prelude.{ℕ, ◌≡◌, ◌<◌, IfOk, OnErr, length};
+ghost use Rattle.std.specs.Prelude.{ℕ, ◌≡◌, ◌<◌, [], IfOk, OnErr, length};
 ghost use Rattle.shared_pool.specs.Refs.{IsPoolRef};
+ghost use Rattle.codec_desk.specs.Clocks.{EndsAt, Clocked};
 ghost use Rattle.codec_desk.specs.Desks.{SitAt};
+ghost use Rattle.codec_desk.specs.Each.{Each};
 ghost use Rattle.codec_desk.specs.Runs.{EachRunsNone};
 ghost use Rattle.script_types.specs.Names.{looked_at};
 ghost use Rattle.script_types.specs.declared.steps.Step.TheVariants as step;
@@ -45,6 +47,8 @@ fn step_on_media<C: Coder, R: Wait>(
     ensures sits { SitAt desk.now seats.new }
     ensures runs { EachRunsNone desk.now.codecs.items seats.old.codecs.items
         → EachRunsNone desk.now.codecs.items seats.new.codecs.items }
+    ensures ends { Each (EndsAt [])
+        desk.now.codecs.items seats.old.codecs.items seats.new.codecs.items }
     ensures stay { StaySeats desk.now seats.old seats.new }
     ensures held { AreOf (IsPoolRef desk.now.pool) variables.new }
     ensures did { let vs = seen_in variables.old in let after = seen_in variables.new in
@@ -68,7 +72,7 @@ fn step_on_media<C: Coder, R: Wait>(
 
 /// A step of a caller, and its result: a call of a codec, a look, a wait, a chunk that is made, or a step on media. `steps` has the
 /// caller's steps, `results` those of the steps before it, and `variables` what these left. Where memory is wanted the variables
-/// are as they were; a take may have been made.
+/// are as they were; a take may have been made. Whatever the result, each end and each reclaim is at a moment that the clock gave.
 pub fn caller_step<C: Coder, K: Clock, G: Gate, R: Wait>(
     rt: &R,
     alloc: Global,
@@ -94,6 +98,7 @@ pub fn caller_step<C: Coder, K: Clock, G: Gate, R: Wait>(
     ensures sits { SitAt desk.now seats.new }
     ensures runs { EachRunsNone desk.now.codecs.items seats.old.codecs.items
         → EachRunsNone desk.now.codecs.items seats.new.codecs.items }
+    ensures timed { Clocked desk.now seats.old seats.new (K.told clock.old) (K.told clock.new) }
     ensures stay { StaySeats desk.now seats.old seats.new }
     ensures held { AreOf (IsPoolRef desk.now.pool) variables.new }
     ensures did { let vs = seen_in variables.old in let after = seen_in variables.new in

@@ -1,7 +1,9 @@
 // Calls of a caller on codecs of a desk.
-ghost use Rattle.std.specs.Prelude.{ℕ, ◌≡◌, ◌<◌, length, IfOk, OnErr};
+ghost use Rattle.std.specs.Prelude.{ℕ, ◌≡◌, ◌<◌, [], length, IfOk, OnErr};
 ghost use Rattle.shared_codec.specs.Calls.{MayAlways};
+ghost use Rattle.codec_desk.specs.Clocks.{EndsAt};
 ghost use Rattle.codec_desk.specs.Desks.{SitAt};
+ghost use Rattle.codec_desk.specs.Each.{Each};
 ghost use Rattle.codec_desk.specs.Runs.{EachRunsNone};
 ghost use Rattle.desk_callers.specs.Acts.{CalledAs, Helped};
 
@@ -30,6 +32,8 @@ pub fn call_codec<C: Coder, R: Wait>(
     ensures err { OnErr result (Helped desk.now seats.old seats.new) }
     ensures runs { EachRunsNone desk.now.codecs.items seats.old.codecs.items
         → EachRunsNone desk.now.codecs.items seats.new.codecs.items }
+    ensures ends { Each (EndsAt [])
+        desk.now.codecs.items seats.old.codecs.items seats.new.codecs.items }
 {
     match call_once(rt, desk, seats, codec as usize, who, call) {
         Ok(answer) => Ok(StepResult::Call {

@@ -1,9 +1,10 @@
 // Encodes of a caller of what its variables hold.
-ghost use Rattle.std.specs.Prelude.{ℕ, ◌≡◌, ◌<◌, IfOk, length};
+ghost use Rattle.std.specs.Prelude.{ℕ, ◌≡◌, ◌<◌, [], IfOk, length};
 ghost use Rattle.shared_codec.specs.Encodes.{EncodeTells};
 ghost use Rattle.shared_pool.specs.Refs.{IsPoolRef};
+ghost use Rattle.codec_desk.specs.Clocks.{EndsAt};
 ghost use Rattle.codec_desk.specs.Desks.{SitAt};
-ghost use Rattle.codec_desk.specs.Each.{OneAt};
+ghost use Rattle.codec_desk.specs.Each.{Each, OneAt};
 ghost use Rattle.codec_desk.specs.Runs.{EachRunsNone};
 ghost use Rattle.script_types.specs.declared.steps.Step.TheVariants as step;
 ghost use Rattle.script_types.specs.declared.steps.MediaStep.TheVariants as on_media;
@@ -43,6 +44,8 @@ fn encode_open<C: Coder, R: Wait>(
     ensures sits { SitAt desk.now seats.new }
     ensures runs { EachRunsNone desk.now.codecs.items seats.old.codecs.items
         → EachRunsNone desk.now.codecs.items seats.new.codecs.items }
+    ensures ends { Each (EndsAt [])
+        desk.now.codecs.items seats.old.codecs.items seats.new.codecs.items }
     ensures stay { StaySeats desk.now seats.old seats.new }
     ensures held { AreOf (IsPoolRef desk.now.pool) variables.new }
     ensures same { seen_in variables.new ≡ seen_in variables.old }
@@ -85,6 +88,8 @@ fn encode_gone<C: Coder, R: Wait>(
     ensures sits { SitAt desk.now seats.new }
     ensures runs { EachRunsNone desk.now.codecs.items seats.old.codecs.items
         → EachRunsNone desk.now.codecs.items seats.new.codecs.items }
+    ensures ends { Each (EndsAt [])
+        desk.now.codecs.items seats.old.codecs.items seats.new.codecs.items }
     ensures stay { StaySeats desk.now seats.old seats.new }
     ensures encoded { let x = lendable_at (seen_in variables.now) variable in
         IfOk result (EncodedAs desk.now who codec x seats.old seats.new) }
@@ -113,6 +118,8 @@ pub(crate) fn encode_step<C: Coder, R: Wait>(
     ensures sits { SitAt desk.now seats.new }
     ensures runs { EachRunsNone desk.now.codecs.items seats.old.codecs.items
         → EachRunsNone desk.now.codecs.items seats.new.codecs.items }
+    ensures ends { Each (EndsAt [])
+        desk.now.codecs.items seats.old.codecs.items seats.new.codecs.items }
     ensures stay { StaySeats desk.now seats.old seats.new }
     ensures held { AreOf (IsPoolRef desk.now.pool) variables.new }
     ensures same { seen_in variables.new ≡ seen_in variables.old }

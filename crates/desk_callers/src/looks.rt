@@ -1,8 +1,9 @@
 // Looks of a caller at codecs of a desk.
-ghost use Rattle.std.specs.Prelude.{ℕ, ◌≡◌, ◌<◌, length};
+ghost use Rattle.std.specs.Prelude.{ℕ, ◌≡◌, ◌<◌, [], length};
 ghost use Rattle.shared_codec.specs.Looks.{LookTells, PromiseTells};
+ghost use Rattle.codec_desk.specs.Clocks.{EndsAt};
 ghost use Rattle.codec_desk.specs.Desks.{SitAt};
-ghost use Rattle.codec_desk.specs.Each.{OneAt};
+ghost use Rattle.codec_desk.specs.Each.{Each, OneAt};
 ghost use Rattle.codec_desk.specs.Runs.{EachRunsNone};
 ghost use Rattle.desk_callers.specs.Acts.{Helped, SawState, SawPromise};
 
@@ -28,6 +29,8 @@ pub fn look_codec<C: Coder, R: Wait>(
     ensures helped { Helped desk.now seats.old seats.new }
     ensures runs { EachRunsNone desk.now.codecs.items seats.old.codecs.items
         → EachRunsNone desk.now.codecs.items seats.new.codecs.items }
+    ensures ends { Each (EndsAt [])
+        desk.now.codecs.items seats.old.codecs.items seats.new.codecs.items }
 {
     dues_add_up();
     desk.codecs[codec].look(rt, &mut seats.codecs[codec])
@@ -46,6 +49,8 @@ pub fn state_result<C: Coder, R: Wait>(
     ensures helped { Helped desk.now seats.old seats.new }
     ensures runs { EachRunsNone desk.now.codecs.items seats.old.codecs.items
         → EachRunsNone desk.now.codecs.items seats.new.codecs.items }
+    ensures ends { Each (EndsAt [])
+        desk.now.codecs.items seats.old.codecs.items seats.new.codecs.items }
     ensures saw { SawState desk.now codec result seats.old seats.new }
 {
     let (length, state, size) = look_codec(rt, desk, seats, codec as usize);
@@ -73,6 +78,8 @@ pub fn look_at_promise<C: Coder, R: Wait>(
     ensures helped { Helped desk.now seats.old seats.new }
     ensures runs { EachRunsNone desk.now.codecs.items seats.old.codecs.items
         → EachRunsNone desk.now.codecs.items seats.new.codecs.items }
+    ensures ends { Each (EndsAt [])
+        desk.now.codecs.items seats.old.codecs.items seats.new.codecs.items }
 {
     dues_add_up();
     desk.codecs[codec].look_at_promise(rt, &mut seats.codecs[codec], place)
@@ -92,6 +99,8 @@ pub fn promise_result<C: Coder, R: Wait>(
     ensures helped { Helped desk.now seats.old seats.new }
     ensures runs { EachRunsNone desk.now.codecs.items seats.old.codecs.items
         → EachRunsNone desk.now.codecs.items seats.new.codecs.items }
+    ensures ends { Each (EndsAt [])
+        desk.now.codecs.items seats.old.codecs.items seats.new.codecs.items }
     ensures saw { SawPromise desk.now codec place result seats.old seats.new }
 {
     let (length, end) = look_at_promise(rt, desk, seats, codec as usize, place);

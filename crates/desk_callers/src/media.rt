@@ -1,7 +1,9 @@
 // Steps of callers on media of their own.
 ghost use Rattle.std.specs.Prelude.{ℕ, ◌≡◌, ◌∷◌, [], None, Some, IfOk, OnErr, length};
 ghost use Rattle.shared_pool.specs.Refs.{IsPoolRef};
+ghost use Rattle.codec_desk.specs.Clocks.{EndsAt};
 ghost use Rattle.codec_desk.specs.Desks.{SitAt};
+ghost use Rattle.codec_desk.specs.Each.{Each};
 ghost use Rattle.codec_desk.specs.Runs.{EachRunsNone};
 ghost use Rattle.script_types.specs.Names.{called, taken_from};
 ghost use Rattle.script_types.specs.declared.steps.Step.TheVariants as step;
@@ -73,6 +75,8 @@ pub fn media_step<C: Coder, R: Wait>(
     ensures sits { SitAt desk.now seats.new }
     ensures runs { EachRunsNone desk.now.codecs.items seats.old.codecs.items
         → EachRunsNone desk.now.codecs.items seats.new.codecs.items }
+    ensures ends { Each (EndsAt [])
+        desk.now.codecs.items seats.old.codecs.items seats.new.codecs.items }
     ensures stay { StaySeats desk.now seats.old seats.new }
     ensures held { AreOf (IsPoolRef desk.now.pool) variables.new }
     ensures did { let vs = seen_in variables.old in let after = seen_in variables.new in

@@ -1,6 +1,7 @@
 // All steps of one caller.
 ghost use Rattle.std.specs.Prelude.{ℕ, ◌≡◌, ◌<◌, ◌^◌, [], OnOk, length};
 ghost use Rattle.shared_pool.specs.Refs.{IsPoolRef};
+ghost use Rattle.codec_desk.specs.Clocks.{Clocked};
 ghost use Rattle.codec_desk.specs.Desks.{SitAt};
 ghost use Rattle.codec_desk.specs.Runs.{EachRunsNone};
 ghost use Rattle.media_variables.specs.Held.{AreOf, seen_in};
@@ -22,6 +23,7 @@ use wc_chunk::Chunk;
 
 /// All steps of the caller with this number, one after the other: their results, and what its variables hold then. `media` has the
 /// chunks of the script's chunk files. Where memory is wanted the run is to be given up: the last step may have made its entry.
+/// Whatever the result, each end and each reclaim is at a moment that the clock gave.
 pub fn caller_steps<C: Coder, K: Clock, G: Gate, R: Wait>(
     rt: &R,
     alloc: Global,
@@ -44,6 +46,7 @@ pub fn caller_steps<C: Coder, K: Clock, G: Gate, R: Wait>(
     ensures sits { SitAt desk.now seats.new }
     ensures runs { EachRunsNone desk.now.codecs.items seats.old.codecs.items
         → EachRunsNone desk.now.codecs.items seats.new.codecs.items }
+    ensures timed { Clocked desk.now seats.old seats.new (K.told clock.old) (K.told clock.new) }
     ensures stay { StaySeats desk.now seats.old seats.new }
     ensures held { AreOf (IsPoolRef desk.now.pool) variables.new }
     ensures done { let after = seen_in variables.new in let rs = results.new.items in

@@ -1,6 +1,8 @@
 // Steps of callers.
-ghost use Rattle.std.specs.Prelude.{ℕ, ◌≡◌, ◌<◌, None, Some, IfOk, length, slice_get};
+ghost use Rattle.std.specs.Prelude.{ℕ, ◌≡◌, ◌<◌, [], None, Some, IfOk, length, slice_get};
+ghost use Rattle.codec_desk.specs.Clocks.{EndsAt, Clocked};
 ghost use Rattle.codec_desk.specs.Desks.{SitAt};
+ghost use Rattle.codec_desk.specs.Each.{Each};
 ghost use Rattle.codec_desk.specs.Runs.{EachRunsNone};
 ghost use Rattle.script_types.specs.Names.{called, looked_at};
 ghost use Rattle.script_types.specs.declared.steps.Step.TheVariants as step;
@@ -78,6 +80,8 @@ fn called_step<C: Coder, R: Wait>(
     ensures sits { SitAt desk.now seats.new }
     ensures runs { EachRunsNone desk.now.codecs.items seats.old.codecs.items
         → EachRunsNone desk.now.codecs.items seats.new.codecs.items }
+    ensures ends { Each (EndsAt [])
+        desk.now.codecs.items seats.old.codecs.items seats.new.codecs.items }
     ensures stay { StaySeats desk.now seats.old seats.new }
     ensures did { let vs = seen_in variables.now in let s = script.now in
         let did = Did s media.now desk.now who asked.now results.now seats.old seats.new vs vs in
@@ -121,6 +125,8 @@ fn poll_step<C: Coder, R: Wait>(
     ensures sits { SitAt desk.now seats.new }
     ensures runs { EachRunsNone desk.now.codecs.items seats.old.codecs.items
         → EachRunsNone desk.now.codecs.items seats.new.codecs.items }
+    ensures ends { Each (EndsAt [])
+        desk.now.codecs.items seats.old.codecs.items seats.new.codecs.items }
     ensures stay { StaySeats desk.now seats.old seats.new }
     ensures did { let vs = seen_in variables.now in let x = step.Poll promise.now in
         Did script.now media.now desk.now who x results.now seats.old seats.new vs vs result }
@@ -150,6 +156,7 @@ fn await_step<C: Coder, K: Clock, G: Gate, R: Wait>(
     ensures sits { SitAt desk.now seats.new }
     ensures runs { EachRunsNone desk.now.codecs.items seats.old.codecs.items
         → EachRunsNone desk.now.codecs.items seats.new.codecs.items }
+    ensures timed { Clocked desk.now seats.old seats.new (K.told clock.old) (K.told clock.new) }
     ensures stay { StaySeats desk.now seats.old seats.new }
     ensures did { let vs = seen_in variables.now in let x = step.Await promise.now in
         Did script.now media.now desk.now who x results.now seats.old seats.new vs vs result }
@@ -181,6 +188,8 @@ fn decode_step<C: Coder, R: Wait>(
     ensures sits { SitAt desk.now seats.new }
     ensures runs { EachRunsNone desk.now.codecs.items seats.old.codecs.items
         → EachRunsNone desk.now.codecs.items seats.new.codecs.items }
+    ensures ends { Each (EndsAt [])
+        desk.now.codecs.items seats.old.codecs.items seats.new.codecs.items }
     ensures stay { StaySeats desk.now seats.old seats.new }
     ensures did { let vs = seen_in variables.now in let s = script.now in
         let did = Did s media.now desk.now who asked.now results.now seats.old seats.new vs vs in
@@ -199,7 +208,8 @@ fn decode_step<C: Coder, R: Wait>(
 }
 
 /// A step of a caller that is none on media: a call of a codec, a look, a wait, or a chunk that is made. `steps` has the caller's
-/// steps, and `results` those of the steps before it. Where memory is wanted no entry was made for the step.
+/// steps, and `results` those of the steps before it. Where memory is wanted no entry was made for the step. Each end and each
+/// reclaim is at a moment that the clock gave.
 pub fn plain_step<C: Coder, K: Clock, G: Gate, R: Wait>(
     rt: &R,
     alloc: Global,
@@ -225,6 +235,7 @@ pub fn plain_step<C: Coder, K: Clock, G: Gate, R: Wait>(
     ensures sits { SitAt desk.now seats.new }
     ensures runs { EachRunsNone desk.now.codecs.items seats.old.codecs.items
         → EachRunsNone desk.now.codecs.items seats.new.codecs.items }
+    ensures timed { Clocked desk.now seats.old seats.new (K.told clock.old) (K.told clock.new) }
     ensures stay { StaySeats desk.now seats.old seats.new }
     ensures did { let vs = seen_in variables.now in let s = script.now in
         let did = Did s media.now desk.now who asked.now results.now seats.old seats.new vs vs in

@@ -3,8 +3,9 @@ ghost use Rattle.std.specs.Prelude.{ℕ, ◌≡◌, ◌∷◌, [], ◌<◌, Some
 ghost use Rattle.shared_pool.specs.Refs.{IsPoolRef};
 ghost use Rattle.shared_codec.specs.Names.{taken_calls};
 ghost use Rattle.shared_codec.specs.Takes.{OutputTells, TakeTells};
+ghost use Rattle.codec_desk.specs.Clocks.{EndsAt};
 ghost use Rattle.codec_desk.specs.Desks.{SitAt, Settled};
-ghost use Rattle.codec_desk.specs.Each.{OneAt};
+ghost use Rattle.codec_desk.specs.Each.{Each, OneAt};
 ghost use Rattle.codec_desk.specs.Named.{Calls};
 ghost use Rattle.codec_desk.specs.Runs.{EachRunsNone};
 ghost use Rattle.script_types.specs.declared.steps.Step.TheVariants as step;
@@ -51,6 +52,8 @@ fn look_for_output<C: Coder, R: Wait>(
     ensures helped { Helped desk.now seats.old seats.new }
     ensures runs { EachRunsNone desk.now.codecs.items seats.old.codecs.items
         → EachRunsNone desk.now.codecs.items seats.new.codecs.items }
+    ensures ends { Each (EndsAt [])
+        desk.now.codecs.items seats.old.codecs.items seats.new.codecs.items }
 {
     dues_add_up();
     desk.codecs[codec].look_for_output(rt, &mut seats.codecs[codec])
@@ -74,6 +77,8 @@ fn take_output<C: Coder, R: Wait>(
     ensures calls { Calls desk.now (taken_calls codec who number result) seats.old seats.new }
     ensures runs { EachRunsNone desk.now.codecs.items seats.old.codecs.items
         → EachRunsNone desk.now.codecs.items seats.new.codecs.items }
+    ensures ends { Each (EndsAt [])
+        desk.now.codecs.items seats.old.codecs.items seats.new.codecs.items }
 {
     dues_add_up();
     desk.codecs[codec].take(rt, &mut seats.codecs[codec], who, number)
@@ -109,6 +114,8 @@ fn take_found<C: Coder, R: Wait>(
     ensures sits { SitAt desk.now seats.new }
     ensures runs { EachRunsNone desk.now.codecs.items seats.old.codecs.items
         → EachRunsNone desk.now.codecs.items seats.new.codecs.items }
+    ensures ends { Each (EndsAt [])
+        desk.now.codecs.items seats.old.codecs.items seats.new.codecs.items }
     ensures stay { StaySeats desk.now seats.old seats.new }
     ensures tried { IfOk result (IsTried desk.now who codec seats.old seats.new) }
 {
@@ -131,6 +138,8 @@ fn try_output<C: Coder, R: Wait>(
     ensures sits { SitAt desk.now seats.new }
     ensures runs { EachRunsNone desk.now.codecs.items seats.old.codecs.items
         → EachRunsNone desk.now.codecs.items seats.new.codecs.items }
+    ensures ends { Each (EndsAt [])
+        desk.now.codecs.items seats.old.codecs.items seats.new.codecs.items }
     ensures stay { StaySeats desk.now seats.old seats.new }
     ensures tried { IfOk result (IsTried desk.now who codec seats.old seats.new) }
 {
@@ -158,6 +167,8 @@ fn find_output<C: Coder, R: Wait>(
     ensures sits { SitAt desk.now seats.new }
     ensures runs { EachRunsNone desk.now.codecs.items seats.old.codecs.items
         → EachRunsNone desk.now.codecs.items seats.new.codecs.items }
+    ensures ends { Each (EndsAt [])
+        desk.now.codecs.items seats.old.codecs.items seats.new.codecs.items }
     ensures stay { StaySeats desk.now seats.old seats.new }
     ensures found { IfOk result (IsFound desk.now who codec seats.old seats.new) }
 {
@@ -196,6 +207,8 @@ pub(crate) fn take_step<C: Coder, R: Wait>(
     ensures sits { SitAt desk.now seats.new }
     ensures runs { EachRunsNone desk.now.codecs.items seats.old.codecs.items
         → EachRunsNone desk.now.codecs.items seats.new.codecs.items }
+    ensures ends { Each (EndsAt [])
+        desk.now.codecs.items seats.old.codecs.items seats.new.codecs.items }
     ensures stay { StaySeats desk.now seats.old seats.new }
     ensures held { AreOf (IsPoolRef desk.now.pool) variables.new }
     ensures did { let vs = seen_in variables.old in let after = seen_in variables.new in

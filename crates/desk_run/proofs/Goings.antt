@@ -1,6 +1,7 @@
 -- Seats that stay at their desk while threads work there.
-use Rattle.std.proofs.Common.{ℕ, suc, ◌≡◌, ◌+◌, ◌<◌, List, [], ◌∷◌, Option, length, refl, subst, append-nil, arith}
+use Rattle.std.proofs.Common.{ℕ, suc, ◌≡◌, ◌+◌, ◌<◌, List, [], ◌∷◌, length, refl, subst, append-nil, arith}
 use Rattle.std.proofs.lemmas.Option.{slice_get_within}
+use Rattle.work_moments.specs.Moments.{Telling}
 use Rattle.shared_codec.specs.Dues.{Called}
 use Rattle.codec_desk.specs.declared.desk.Desk.{Desk}
 use Rattle.codec_desk.specs.declared.desk.Seats.{Seats}
@@ -42,7 +43,7 @@ module _ {C : Type 0} (desk : Desk C) where
 
 module _ {C K G : Type 0} (desk : Desk C) where
   -- the seats of jobs that were done may be joined
-  pub still_join : (told : K → Option (List ℕ)) → OrderStands C → (before after : List (Job C K G)) → length after ≡ length before → AllMayJoin desk before → AreReady desk after → AreDone told desk before after → AllMayJoin desk after
+  pub still_join : (told : K → Telling) → OrderStands C → (before after : List (Job C K G)) → length after ≡ length before → AllMayJoin desk before → AreReady desk after → AreDone told desk before after → AllMayJoin desk after
   still_join told stands before after many may ready done i job at =
       let was = get_there before i (subst (λ (n : ℕ). i < n) many (slice_get_within after i job at)) in
       let d = done i was.0 job was.1 at in

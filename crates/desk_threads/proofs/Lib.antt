@@ -3,3 +3,4 @@ mod Lists
 mod Ordering
 mod Resting
 mod SeatSteps
+mod Timing

@@ -26,7 +26,7 @@ use Rattle.codec_desk.specs.Desks.{SitsAt, InOrderSince, TellsSince, SitAt, Sett
 use Rattle.codec_desk.specs.Each.{Pairs, Each}
 use Rattle.desk_threads.specs.Accounts.{EachSawNone, SawNone, EachByAll, AreAll}
 use Rattle.desk_threads.specs.AccountLaws.{joined_view, left_dues, new_dues, left_made, new_made}
-use Rattle.desk_threads.specs.MadeLaws.{made_more, made_all}
+use Rattle.codec_desk.specs.MadeLaws.{made_more, made_all}
 use Rattle.desk_threads.specs.Orders.{IsOrdered, IsWholeInOrder, InOrder, WholeInOrder}
 use Rattle.desk_threads.specs.Parts.{IsSplit, IsJoin, EachOfThree, AreSplit, AreTakenIn}
 

@@ -23,7 +23,7 @@ use Rattle.codec_desk.specs.DeskLaws.{map_both}
 use Rattle.codec_desk.specs.Desks.{told, entry_for, slot_calls, pool_calls, Settled}
 use Rattle.codec_desk.specs.Each.{total_of}
 use Rattle.desk_threads.specs.Accounts.{is_by_codec, for_codecs, Balanced, EachSawNone, SawNone, EachByAll, all_slot_calls, all_pool_calls, AreAll, AllBalanced}
-use Rattle.desk_threads.specs.MadeLaws.{entries_none, made_more, made_joined, made_all}
+use Rattle.codec_desk.specs.MadeLaws.{entries_none, made_more, made_joined, made_all}
 use Rattle.desk_threads.specs.Parts.{IsSplit, IsJoin, AreSplit, AreTakenIn}
 use Rattle.desk_threads.specs.PartLaws.{total_second, total_third, total_both}
 
@@ -150,8 +150,8 @@ module _ {S E : Type 0} where
   pub new_made : (id : TableId) (u v w : Seat (Option S) (View E)) → IsSplit id u v w → made_by w.me.0 ≡ []
   new_made id u v w split = ap (λ (m : Sitting S E). made_by m.0) split.new.view ∙ entries_none (split.new.number ∷ []) u.me.0.log split.new.made_none
 
-  both_made : (u v w : Seat (Option S) (View E)) → IsJoin u v w → SameBag (made_by w.me.0) (made_by u.me.0 ++ made_by v.me.0)
-  both_made u v w join = made_joined u.me.0 v.me.0 w.me.0 (ap (λ (m : Sitting S E). m.0.numbers) join.both.view) join.both.continues_one join.both.continues_other join.both.apart
+  pub seat_joined : (u v w : Seat (Option S) (View E)) → IsJoin u v w → SameBag (made_by w.me.0) (made_by u.me.0 ++ made_by v.me.0)
+  seat_joined u v w join = made_joined u.me.0 v.me.0 w.me.0 (ap (λ (m : Sitting S E). m.0.numbers) join.both.view) join.both.continues_one join.both.continues_other join.both.apart
 
 -- ---- a thread's account
 
@@ -214,11 +214,11 @@ module _ {C : Type 0} where
       let p =
       total_both (λ s u v w. IsJoin u v w) (λ s u. map (entry_for s.codec) (dues_of media_dues s.codec s.opening u.me.0))
       (λ s u v w h. map_joined (entry_for s.codec) (dues_of media_dues s.codec s.opening u.me.0) (dues_of media_dues s.codec s.opening v.me.0) (dues_of media_dues s.codec s.opening w.me.0) (both_dues media_dues media_add s u v w h)) desk.codecs.items a.codecs.items o.codecs.items b.codecs.items join.codecs in
-      let made = codecs_joined (made_by a.pool.me.0) (made_by o.pool.me.0) (made_by b.pool.me.0) (both_made a.pool o.pool b.pool join.pool) in
+      let made = codecs_joined (made_by a.pool.me.0) (made_by o.pool.me.0) (made_by b.pool.me.0) (seat_joined a.pool o.pool b.pool join.pool) in
       record {
         slots =
             added (slot_calls desk.codecs.items a.codecs.items) (slot_calls desk.codecs.items o.codecs.items) (slot_calls desk.codecs.items b.codecs.items) (made_by a.slots.me.0) (made_by o.slots.me.0) (made_by b.slots.me.0)
-            s (both_made a.slots o.slots b.slots join.slots) x.slots y.slots;
+            s (seat_joined a.slots o.slots b.slots join.slots) x.slots y.slots;
         pool =
             added (pool_calls desk.codecs.items a.codecs.items) (pool_calls desk.codecs.items o.codecs.items) (pool_calls desk.codecs.items b.codecs.items) (for_codecs (made_by a.pool.me.0)) (for_codecs (made_by o.pool.me.0)) (for_codecs (made_by b.pool.me.0))
             p made x.pool y.pool;

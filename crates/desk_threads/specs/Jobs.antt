@@ -1,8 +1,9 @@
 -- What the job of a thread is before it is done, and what was done.
-use Rattle.std.specs.Prelude.{ℕ, ◌≡◌, List, [], Option, Some, slice_get}
+use Rattle.std.specs.Prelude.{ℕ, ◌≡◌, List, [], Some, slice_get}
+use Rattle.work_moments.specs.Moments.{Telling}
 use Rattle.codec_desk.specs.declared.desk.Desk.{Desk}
 use Rattle.codec_desk.specs.declared.desk.Seats.{Seats}
-use Rattle.codec_desk.specs.Clocks.{Timed}
+use Rattle.codec_desk.specs.Clocks.{Clocked}
 use Rattle.codec_desk.specs.Desks.{SitAt, Settled}
 use Rattle.codec_desk.specs.Each.{Each}
 use Rattle.codec_desk.specs.Named.{Calls}
@@ -37,13 +38,13 @@ module _ {C K G : Type 0} (desk : Desk C) where
   NoneCalled jobs = (i : ℕ) (job : Job C K G) → slice_get jobs i ≡ Some job → Named desk [] job.seats
 
 -- of clocks that tell these moments
-module _ {C K G : Type 0} (told : K → Option (List ℕ)) (desk : Desk C) where
+module _ {C K G : Type 0} (told : K → Telling) (desk : Desk C) where
   pub record IsDone (was job : Job C K G) : Type 0 where
     pub role : job.role ≡ was.role
     pub settled : Settled desk was.seats job.seats
     pub calls : Calls desk [] was.seats job.seats
     pub found : Found desk was.role was.seats job.seats
-    pub timed : Timed desk was.seats job.seats (told was.watch.clock) (told job.watch.clock)
+    pub timed : Clocked desk was.seats job.seats (told was.watch.clock) (told job.watch.clock)
 
   -- each job was done
   abbrev pub AreDone : List (Job C K G) → List (Job C K G) → Type 0

@@ -1,7 +1,6 @@
 pub mod Parts
 pub mod PartLaws
 pub mod Accounts
-pub mod MadeLaws
 pub mod AccountLaws
 pub mod Jobs
 pub mod Rested
@@ -11,3 +10,4 @@ pub mod CallLaws
 pub mod Longer
 pub mod LongerLaws
 pub mod Orders
+pub mod Timely

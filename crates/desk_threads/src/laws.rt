@@ -3,6 +3,7 @@ ghost use Rattle.desk_threads.specs.Accounts.{AccountsBegin, AccountsAreKept, Ac
 ghost use Rattle.desk_threads.specs.Accounts.{CallsBegin, CallsAreKept, CallsAreHistories};
 ghost use Rattle.desk_threads.specs.Orders.{OrderStands};
 ghost use Rattle.desk_threads.specs.Runs.{RestIsQuiet};
+ghost use Rattle.desk_threads.specs.Timely.{TimeStands};
 
 use coder_api::Coder;
 use shared_codec::{dues_add_up, order_is_kept};
@@ -40,3 +41,10 @@ pub fn order_stands<C: Coder>()
     dues_add_up();
     order_is_kept();
 }
+
+/// Law: each end and each reclaim of a thread is at a moment that fits, where each clock that it works with gives only such moments;
+/// and it makes at most as many reclaims as it ends items whose first acquire was refused. This stands as its seats are split, and
+/// where it takes in another thread's. Of seats that have all passages it is so of the codecs' logs.
+pub fn time_stands<C: Coder>()
+    ensures { TimeStands C }
+{}

@@ -8,6 +8,6 @@ mod parts;
 mod settling;
 
 pub use jobs::{Job, Role, join_jobs, run_job, run_jobs};
-pub use laws::{accounts_are_kept, calls_are_kept, order_stands, rest_is_quiet};
+pub use laws::{accounts_are_kept, calls_are_kept, order_stands, rest_is_quiet, time_stands};
 pub use parts::{join_seats, split_seats};
 pub use settling::settle_desk;

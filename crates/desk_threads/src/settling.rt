@@ -1,6 +1,6 @@
 // All that is left to do on a desk.
 ghost use Rattle.std.specs.Prelude.{◌≡◌, [], false};
-ghost use Rattle.codec_desk.specs.Clocks.{Timed};
+ghost use Rattle.codec_desk.specs.Clocks.{Clocked};
 ghost use Rattle.codec_desk.specs.Desks.{SitAt, Settled};
 ghost use Rattle.codec_desk.specs.Named.{Calls};
 ghost use Rattle.codec_desk.specs.Runs.{EachRunsNone};
@@ -35,7 +35,7 @@ pub fn settle_desk<C: Coder, K: Clock, G: Gate, R: Wait>(
     ensures runs { EachRunsNone desk.now.codecs.items seats.old.codecs.items
         → EachRunsNone desk.now.codecs.items seats.new.codecs.items }
     ensures rested { CameToRest desk.now seats.old seats.new }
-    ensures timed { Timed desk.now seats.old seats.new (K.told clock.old) (K.told clock.new) }
+    ensures timed { Clocked desk.now seats.old seats.new (K.told clock.old) (K.told clock.new) }
 {
     for _ in rt.forever() {
         let worked = item_round(rt, alloc, desk, seats, clock, gate);

@@ -1,5 +1,6 @@
 use Rattle.std.proofs.Common.{length, sym, subst}
 use Rattle.std.specs.Prelude.{IfOk}
+use Rattle.codec_desk.specs.TallyLaws.{clocked_rest}
 use Rattle.script_types.specs.declared.steps.Step.{Step}
 use Rattle.media_variables.specs.Held.{seen_in}
 use Rattle.desk_callers.specs.Acts.{Did, NamesWithin}
@@ -17,3 +18,6 @@ returns-in-Media-clause-did g c =
 
 pub plain_step-requires-clause-plain : goal.plain_step-requires-clause-plain
 plain_step-requires-clause-plain g c κs within = no_media c.args.asked.now c.in_default.not-Media
+
+pub returns-in-Media-clause-timed : goal.returns-in-Media-clause-timed
+returns-in-Media-clause-timed g c = clocked_rest c.args.desk.now c.args.seats.now c.step_on_media.new.seats (g.K.Clock.told c.args.clock.now) c.step_on_media.ensures.ends

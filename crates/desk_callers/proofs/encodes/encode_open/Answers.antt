@@ -15,6 +15,7 @@ use Rattle.desk_callers.proofs.Lent.{lends_as}
 use Rattle.desk_callers.proofs.Runners.{none_encoded}
 use Rattle.desk_callers.proofs.Sitting.{sit_length, sit_get}
 use Rattle.desk_callers.proofs.Staying.{sit_stay, stay_encode}
+use Rattle.desk_callers.proofs.Ends.{encoded_ends, ends_at}
 use Rattle.desk_callers.proofs.encodes.encode_open.Goals as goal
 
 pub index_mut-requires : goal.index_mut-requires
@@ -140,3 +141,37 @@ pub returns-in-Err-clause-same : goal.returns-in-Err-clause-same
 returns-in-Err-clause-same g c =
     let last = c.variables-1.given.1 (sym (c.in-Err.ensures.stays.borrowed ∙ c.new-lender.ensures.borrowed)) in
     ap seen_in last ∙ (c.in-Err.ensures.stays.seen ∙ ap seen_in c.new-lender.ensures.variables)
+
+pub returns-in-Ok-clause-ends : goal.returns-in-Ok-clause-ends
+returns-in-Ok-clause-ends g c =
+    let l = sit_length c.args.desk.now c.args.seats.now c.requires.sits in
+    let r = c.requires.codec in
+    let codec_is : slice_get c.args.desk.now.codecs.items c.args.codec ≡ Some c.index.result.now = slice_get_read _ _ c.args.codec c.index.result.now refl r c.index.ensures in
+    let seat_is : slice_get c.args.seats.now.codecs.items c.args.codec ≡ Some c.index_mut.result.now = slice_get_read _ _ c.args.codec c.index_mut.result.now refl (omega (arith, l, r)) c.index_mut.ensures.value in
+    ends_at c.args.desk.now c.args.seats.now _ c.requires.sits c.args.codec (λ s u v. EncodeTells s c.args.who (LendsMedium c.new-lender.result) (Ok c.in-Ok.reply) u v c.args.seats.now.pool.me.0 c.encode.new.pool_seat.me.0)
+    (encoded_ends c.args.who (LendsMedium c.new-lender.result) (Ok c.in-Ok.reply) c.args.seats.now.pool.me.0 c.encode.new.pool_seat.me.0) (record {
+      partner = c.index.result.now;
+      before = c.index_mut.result.now;
+      after = c.encode.new.seat;
+      partner_is = codec_is;
+      before_is = seat_is;
+      after_is = refl;
+      so = c.in-Ok.ensures.reply;
+    })
+
+pub returns-in-Err-clause-ends : goal.returns-in-Err-clause-ends
+returns-in-Err-clause-ends g c =
+    let l = sit_length c.args.desk.now c.args.seats.now c.requires.sits in
+    let r = c.requires.codec in
+    let codec_is : slice_get c.args.desk.now.codecs.items c.args.codec ≡ Some c.index.result.now = slice_get_read _ _ c.args.codec c.index.result.now refl r c.index.ensures in
+    let seat_is : slice_get c.args.seats.now.codecs.items c.args.codec ≡ Some c.index_mut.result.now = slice_get_read _ _ c.args.codec c.index_mut.result.now refl (omega (arith, l, r)) c.index_mut.ensures.value in
+    ends_at c.args.desk.now c.args.seats.now _ c.requires.sits c.args.codec (λ s u v. EncodeTells s c.args.who (LendsMedium c.new-lender.result) (Err (record {})) u v c.args.seats.now.pool.me.0 c.encode.new.pool_seat.me.0)
+    (encoded_ends c.args.who (LendsMedium c.new-lender.result) (Err (record {})) c.args.seats.now.pool.me.0 c.encode.new.pool_seat.me.0) (record {
+      partner = c.index.result.now;
+      before = c.index_mut.result.now;
+      after = c.encode.new.seat;
+      partner_is = codec_is;
+      before_is = seat_is;
+      after_is = refl;
+      so = c.in-Err.ensures.reply;
+    })

@@ -5,6 +5,7 @@ use Rattle.media_variables.specs.Variables.{lendable_at}
 use Rattle.desk_callers.proofs.Encoding.{absent_medium}
 use Rattle.desk_callers.proofs.Staying.{stay_none}
 use Rattle.desk_callers.proofs.TakeActs.{did_encode, no_encode}
+use Rattle.desk_callers.proofs.Ends.{no_ends}
 use Rattle.desk_callers.proofs.encodes.encode_step.Goals as goal
 
 pub returns-in-Absent-clause-stay : goal.returns-in-Absent-clause-stay
@@ -30,3 +31,6 @@ pub returns-in-Open-clause-did : goal.returns-in-Open-clause-did
 returns-in-Open-clause-did g c =
     let there = get_some c.args.desk.now.codecs.items c.args.codec c.requires.codec in
     did_encode c.args.script.now c.args.media.now c.args.desk.now c.args.results.now c.args.seats.now c.encode_open.new.seats (seen_in c.args.variables.now) c.args.who c.args.codec c.args.content.now c.encode_open.result there.0 there.1 c.requires.opened c.encode_open.ensures.encoded
+
+pub returns-in-Absent-clause-ends : goal.returns-in-Absent-clause-ends
+returns-in-Absent-clause-ends g c = no_ends c.args.desk.now c.args.seats.now c.requires.sits

@@ -9,6 +9,7 @@ use Rattle.codec_desk.specs.RunLaws.{none_at, none_looked}
 use Rattle.codec_desk.specs.NamedLaws.{named_one}
 use Rattle.shared_codec.specs.NameLaws.{saw_names}
 use Rattle.desk_callers.proofs.Sitting.{sit_length, sit_get}
+use Rattle.desk_callers.proofs.Ends.{looked_ends, ends_at}
 use Rattle.desk_callers.proofs.looks.look_codec.Goals as goal
 
 pub index_mut-requires : goal.index_mut-requires
@@ -61,3 +62,7 @@ returns-clause-sits g c = sit_after c.args.desk.now c.args.seats.now _ c.require
 pub returns-clause-runs : goal.returns-clause-runs
 returns-clause-runs g c none =
     none_at (λ s a b. LookTells s c.look.result a b) (λ s a b told. none_looked s a b told.looked) c.args.codec c.args.desk.now.codecs.items c.args.seats.now.codecs.items _ (returns-clause-looked g c) none
+
+pub returns-clause-ends : goal.returns-clause-ends
+returns-clause-ends g c =
+    ends_at c.args.desk.now c.args.seats.now _ c.requires.sits c.args.codec (λ s a b. LookTells s c.look.result a b) (λ s a b told. looked_ends s a b told.looked) (returns-clause-looked g c)

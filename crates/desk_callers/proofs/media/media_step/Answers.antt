@@ -5,6 +5,7 @@ use Rattle.media_variables.specs.Variables.{Brought, media_came}
 use Rattle.desk_callers.proofs.MediaActs.{keeps_made, copied_acted, has_answered}
 use Rattle.desk_callers.proofs.Own.{stay_pool}
 use Rattle.desk_callers.proofs.Staying.{stay_none}
+use Rattle.desk_callers.proofs.Ends.{no_ends}
 use Rattle.desk_callers.proofs.media.media_step.Goals as goal
 
 pub returns-in_err-chunk-clause-stay : goal.returns-in_err-chunk-clause-stay
@@ -45,3 +46,12 @@ pub unreachable-requires : goal.unreachable-requires
 unreachable-requires g c =
     let b : Brought = record { chunk = c.in_ok-chunk.chunk; taken = None } in
     has_answered (λ e. MadeSince c.args.seats.now.pool.me.0 c.step_at.new.seat.me.0 (e ∷ [])) (MadeSince c.args.seats.now.pool.me.0 c.step_at.new.seat.me.0 []) c.args.who b c.args.asked.now (seen_in c.args.variables.now) (seen_in c.step_at.new.variables) c.in_ok-answer.answer c.requires.takes c.requires.calls c.in-None.is c.in_ok-answer.ensures.acts
+
+pub returns-in_err-chunk-clause-ends : goal.returns-in_err-chunk-clause-ends
+returns-in_err-chunk-clause-ends g c = no_ends c.args.desk.now c.args.seats.now c.requires.sits
+
+pub returns-in_err-answer-clause-ends : goal.returns-in_err-answer-clause-ends
+returns-in_err-answer-clause-ends g c = no_ends c.args.desk.now c.args.seats.now c.requires.sits
+
+pub returns-clause-ends : goal.returns-clause-ends
+returns-clause-ends g c = no_ends c.args.desk.now c.args.seats.now c.requires.sits

@@ -1,6 +1,7 @@
 use Rattle.std.proofs.Common.{ℕ, ◌≡◌, ◌∙◌, ◌∷◌, [], List, Option, Some, length, length-append, sym, refl, ap, subst, arith}
 use Rattle.std.specs.Prelude.{slice_get}
 use Rattle.std.proofs.lemmas.Option.{slice_get_read}
+use Rattle.codec_desk.specs.TallyLaws.{clocked_none, clocked_then}
 use Rattle.script_types.specs.declared.steps.Step.{Step}
 use Rattle.script_types.specs.Names.{looked_at}
 use Rattle.report_text.specs.declared.result.StepResult.{StepResult}
@@ -22,6 +23,7 @@ loop-number-init g c =
     record {
       sits = c.requires.sits;
       runs = λ none. none;
+      timed = clocked_none c.args.desk.now c.args.seats.now (g.K.Clock.told c.args.clock.now) c.requires.sits;
       stay = stay_none c.args.desk.now c.args.seats.now c.requires.sits;
       held = subst (λ (l : List (Option WholeMedium)). AreOf (IsPoolRef c.args.desk.now.pool) l) (sym c.requires.first.1) (holds_none (IsPoolRef c.args.desk.now.pool));
       done = subst (λ (z : List StepResult × List (Option WholeMedium)). HasDone c.args.script.now c.args.media.now c.args.desk.now c.args.caller z.0 c.args.seats.now c.args.seats.now (seen_in z.1)) (λ i. (sym none i, sym c.requires.first.1 i))
@@ -70,6 +72,7 @@ loop-number-preserved g c =
     record {
       sits = e.sits;
       runs = λ none. e.runs (i.runs none);
+      timed = clocked_then desk c.args.seats.now c.loop-number.seats c.caller_step.new.seats (g.K.Clock.told c.args.clock.now) (g.K.Clock.told c.loop-number.clock) (g.K.Clock.told c.caller_step.new.clock) i.timed e.timed;
       stay = stay_then desk c.args.seats.now c.loop-number.seats c.caller_step.new.seats i.stay e.stay;
       held = e.held;
       done = subst (λ (l : List StepResult). HasDone c.args.script.now c.args.media.now desk c.args.caller l c.args.seats.now c.caller_step.new.seats (seen_in c.caller_step.new.variables)) (sym push.items)
@@ -79,3 +82,10 @@ loop-number-preserved g c =
       end = n;
       room = (let same = push.capacity in let was = i.room in omega (arith, same, was));
     }
+
+pub returns-in_err-reserve-clause-timed : goal.returns-in_err-reserve-clause-timed
+returns-in_err-reserve-clause-timed g c = clocked_none c.args.desk.now c.args.seats.now (g.K.Clock.told c.args.clock.now) c.requires.sits
+
+pub returns-in-Err-clause-timed : goal.returns-in-Err-clause-timed
+returns-in-Err-clause-timed g c =
+    clocked_then c.args.desk.now c.args.seats.now c.loop-number.seats c.caller_step.new.seats (g.K.Clock.told c.args.clock.now) (g.K.Clock.told c.loop-number.clock) (g.K.Clock.told c.caller_step.new.clock) c.loop-number.invariant.timed c.caller_step.ensures.timed

@@ -1,6 +1,7 @@
 use Rattle.std.proofs.Common.{◌≡◌, ◌≤◌, length}
 use Rattle.std.specs.Prelude.{vec_capacity}
 use Rattle.shared_pool.specs.Refs.{IsPoolRef}
+use Rattle.codec_desk.specs.Clocks.{Clocked}
 use Rattle.codec_desk.specs.Desks.{SitAt}
 use Rattle.codec_desk.specs.Runs.{EachRunsNone}
 use Rattle.media_variables.specs.Held.{AreOf, seen_in}
@@ -12,6 +13,7 @@ abbrev pub invariant-loop-number : goal.invariant-loop-number
 invariant-loop-number g l = record {
   sits : SitAt l.fn.desk l.seats;
   runs : EachRunsNone l.fn.desk.codecs.items l.fn.seats.codecs.items → EachRunsNone l.fn.desk.codecs.items l.seats.codecs.items;
+  timed : Clocked l.fn.desk l.fn.seats l.seats (g.K.Clock.told l.fn.clock) (g.K.Clock.told l.clock);
   stay : StaySeats l.fn.desk l.fn.seats l.seats;
   held : AreOf (IsPoolRef l.fn.desk.pool) l.variables;
   done : HasDone l.fn.script l.fn.media l.fn.desk l.fn.caller l.results.items l.fn.seats l.seats (seen_in l.variables);

@@ -10,6 +10,7 @@ use Rattle.report_text.specs.declared.result.StepResult.{StepResult}
 use Rattle.desk_callers.specs.Acts.{Did}
 use Rattle.desk_callers.proofs.Acting.{absent_acted}
 use Rattle.desk_callers.proofs.Staying.{stay_none}
+use Rattle.desk_callers.proofs.Ends.{no_ends}
 use Rattle.desk_callers.proofs.steps.decode_step.Goals as goal
 
 pub returns-in_err-found-clause-stay : goal.returns-in_err-found-clause-stay
@@ -35,3 +36,9 @@ returns-in-None-clause-did g c =
     let vs = seen_in c.args.variables.now in
     subst (λ (x : Step). Did c.args.script.now c.args.media.now c.args.desk.now c.args.who x c.args.results.now c.args.seats.now c.args.seats.now vs vs StepResult.Absent) (sym c.requires.asked)
     (absent_acted c.args.script.now c.args.media.now c.args.desk.now c.args.results.now c.args.seats.now vs c.args.who c.args.codec c.args.chunk.now c.requires.sits (ap (λ l. chunk_for c.args.media.now l vs c.args.chunk.now.step) c.requires.steps ∙ (sym c.in_ok-found.ensures ∙ c.in-None.is)))
+
+pub returns-in_err-found-clause-ends : goal.returns-in_err-found-clause-ends
+returns-in_err-found-clause-ends g c = no_ends c.args.desk.now c.args.seats.now c.requires.sits
+
+pub returns-in-None-clause-ends : goal.returns-in-None-clause-ends
+returns-in-None-clause-ends g c = no_ends c.args.desk.now c.args.seats.now c.requires.sits

@@ -1,5 +1,6 @@
 use Rattle.std.proofs.Common.{length, ap, sym, subst}
 use Rattle.codec_accounts.specs.ListLaws.{get_some}
+use Rattle.codec_desk.specs.TallyLaws.{clocked_none, clocked_rest}
 use Rattle.report_text.specs.declared.result.StepResult.{StepResult}
 use Rattle.script_types.specs.declared.steps.Step.{Step}
 use Rattle.script_types.specs.Names.{looked_at, names_codec}
@@ -54,3 +55,21 @@ returns-in-State-clause-did g c =
     let there = get_some c.args.desk.now.codecs.items c.in-State.on lt in
     subst (λ (x : Step). Did c.args.script.now c.args.media.now c.args.desk.now c.args.who x c.args.results.now c.args.seats.now c.state_result.new.seats vs vs c.state_result.result) (sym c.in-State.is)
     (state_acted c.args.script.now c.args.media.now c.args.desk.now c.args.results.now c.args.seats.now c.state_result.new.seats vs c.args.who c.in-State.on c.state_result.result there.0 there.1 c.requires.opened c.state_result.ensures.helped c.state_result.ensures.saw)
+
+pub returns-in_err-copy-in-Configure-clause-timed : goal.returns-in_err-copy-in-Configure-clause-timed
+returns-in_err-copy-in-Configure-clause-timed g c = clocked_none c.args.desk.now c.args.seats.now (g.K.Clock.told c.args.clock.now) c.requires.sits
+
+pub returns-in-Decode-clause-timed : goal.returns-in-Decode-clause-timed
+returns-in-Decode-clause-timed g c = clocked_rest c.args.desk.now c.args.seats.now c.decode_step.new.seats (g.K.Clock.told c.args.clock.now) c.decode_step.ensures.ends
+
+pub returns-in-Chunk-clause-timed : goal.returns-in-Chunk-clause-timed
+returns-in-Chunk-clause-timed g c = clocked_none c.args.desk.now c.args.seats.now (g.K.Clock.told c.args.clock.now) c.requires.sits
+
+pub returns-in-Poll-clause-timed : goal.returns-in-Poll-clause-timed
+returns-in-Poll-clause-timed g c = clocked_rest c.args.desk.now c.args.seats.now c.poll_step.new.seats (g.K.Clock.told c.args.clock.now) c.poll_step.ensures.ends
+
+pub returns-in-State-clause-timed : goal.returns-in-State-clause-timed
+returns-in-State-clause-timed g c = clocked_rest c.args.desk.now c.args.seats.now c.state_result.new.seats (g.K.Clock.told c.args.clock.now) c.state_result.ensures.ends
+
+pub returns-clause-timed : goal.returns-clause-timed
+returns-clause-timed g c = clocked_rest c.args.desk.now c.args.seats.now c.called_step.new.seats (g.K.Clock.told c.args.clock.now) c.called_step.ensures.ends

@@ -5,10 +5,11 @@ use Rattle.desk_callers.proofs.Acting.{helped_none}
 use Rattle.desk_callers.proofs.Growing.{stay_then}
 use Rattle.desk_callers.proofs.Staying.{stay_helped}
 use Rattle.desk_callers.proofs.Taking.{helped_then, found_since}
+use Rattle.desk_callers.proofs.Ends.{no_ends, ends_more}
 use Rattle.desk_callers.proofs.takes.find_output.Goals as goal
 
 pub loop-init : goal.loop-init
-loop-init g c = (tt, tt, c.requires.sits, helped_none c.args.desk.now c.args.seats.now c.requires.sits, λ none. none)
+loop-init g c = (tt, tt, c.requires.sits, helped_none c.args.desk.now c.args.seats.now c.requires.sits, λ none. none, no_ends c.args.desk.now c.args.seats.now c.requires.sits)
 
 pub loop-preserved : goal.loop-preserved
 loop-preserved g c = (
@@ -18,6 +19,7 @@ loop-preserved g c = (
   helped_then c.args.desk.now c.args.seats.now c.loop.seats c.try_output.new.seats c.loop.invariant.3
       (subst (λ (o : Option FoundOutput). IsTried c.args.desk.now c.args.who c.args.codec c.loop.seats c.try_output.new.seats o) c.in-None-tried.is c.in-Ok.ensures.tried),
   λ none. c.in-Ok.ensures.runs (c.loop.invariant.4 none),
+  ends_more c.args.desk.now c.args.seats.now c.loop.seats c.try_output.new.seats c.loop.invariant.5 c.in-Ok.ensures.ends,
 )
 
 pub returns-in-Err-clause-stay : goal.returns-in-Err-clause-stay
@@ -30,3 +32,9 @@ pub returns-in-Some-tried-clause-found : goal.returns-in-Some-tried-clause-found
 returns-in-Some-tried-clause-found g c =
     found_since c.args.desk.now c.args.who c.args.codec c.in-Some-tried.found c.args.seats.now c.loop.seats c.try_output.new.seats c.loop.invariant.3
     (subst (λ (o : Option FoundOutput). IsTried c.args.desk.now c.args.who c.args.codec c.loop.seats c.try_output.new.seats o) c.in-Some-tried.is c.in-Ok.ensures.tried)
+
+pub returns-in-Err-clause-ends : goal.returns-in-Err-clause-ends
+returns-in-Err-clause-ends g c = ends_more c.args.desk.now c.args.seats.now c.loop.seats c.try_output.new.seats c.loop.invariant.5 c.in-Err.ensures.ends
+
+pub returns-in-Some-tried-clause-ends : goal.returns-in-Some-tried-clause-ends
+returns-in-Some-tried-clause-ends g c = ends_more c.args.desk.now c.args.seats.now c.loop.seats c.try_output.new.seats c.loop.invariant.5 c.in-Ok.ensures.ends

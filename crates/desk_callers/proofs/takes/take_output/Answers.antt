@@ -9,6 +9,7 @@ use Rattle.codec_desk.specs.RunLaws.{none_at}
 use Rattle.desk_callers.proofs.Runners.{none_took}
 use Rattle.desk_callers.proofs.Sitting.{sit_length, sit_get}
 use Rattle.desk_callers.proofs.Taking.{took_at}
+use Rattle.desk_callers.proofs.Ends.{took_ends, ends_at}
 use Rattle.desk_callers.proofs.takes.take_output.Goals as goal
 
 pub index_mut-requires : goal.index_mut-requires
@@ -62,3 +63,7 @@ returns-clause-sits g c = sit_after c.args.desk.now c.args.seats.now _ c.require
 pub returns-clause-runs : goal.returns-clause-runs
 returns-clause-runs g c none =
     none_at (λ s a b. TakeTells s c.args.who c.args.number c.take.result a b) (λ s a b told. none_took s c.args.who c.args.number c.take.result a b told) c.args.codec c.args.desk.now.codecs.items c.args.seats.now.codecs.items _ (returns-clause-taken g c) none
+
+pub returns-clause-ends : goal.returns-clause-ends
+returns-clause-ends g c =
+    ends_at c.args.desk.now c.args.seats.now _ c.requires.sits c.args.codec (λ s a b. TakeTells s c.args.who c.args.number c.take.result a b) (took_ends c.args.who c.args.number c.take.result) (returns-clause-taken g c)

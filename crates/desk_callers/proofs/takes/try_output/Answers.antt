@@ -1,6 +1,7 @@
 use Rattle.desk_callers.proofs.Growing.{stay_then}
 use Rattle.desk_callers.proofs.Staying.{stay_helped}
 use Rattle.desk_callers.proofs.Taking.{if_tried_since, none_found, some_found}
+use Rattle.desk_callers.proofs.Ends.{ends_more}
 use Rattle.desk_callers.proofs.takes.try_output.Goals as goal
 
 pub returns-in-Err-clause-stay : goal.returns-in-Err-clause-stay
@@ -24,3 +25,6 @@ returns-in-None-clause-stay g c = stay_helped c.args.desk.now c.args.seats.now c
 pub returns-in-None-clause-tried : goal.returns-in-None-clause-tried
 returns-in-None-clause-tried g c =
     none_found c.args.desk.now c.args.codec c.in-Ok.seen c.args.seats.now c.look_for_output.new.seats c.look_for_output.ensures.helped c.in-Ok.ensures.looked c.in-None.is
+
+pub returns-in-Some-clause-ends : goal.returns-in-Some-clause-ends
+returns-in-Some-clause-ends g c = ends_more c.args.desk.now c.args.seats.now c.look_for_output.new.seats c.take_found.new.seats c.look_for_output.ensures.ends c.take_found.ensures.ends

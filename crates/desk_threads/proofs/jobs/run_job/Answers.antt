@@ -1,5 +1,5 @@
 use Rattle.std.proofs.Common.{refl, sym, subst}
-use Rattle.codec_desk.specs.ClockLaws.{timed_rest}
+use Rattle.codec_desk.specs.TallyLaws.{clocked_rest}
 use Rattle.desk_threads.specs.declared.jobs.Role.{Role}
 use Rattle.desk_threads.specs.AccountLaws.{balanced_after}
 use Rattle.desk_threads.specs.Jobs.{Found}
@@ -53,5 +53,5 @@ returns-in-Turner-clause-done g c =
       settled = e.settled;
       calls = e.calls;
       found = subst (λ (r : Role). Found c.args.desk.now r c.args.job.now.seats c.turn_loop.new.seats) (sym c.in-Turner.is) e.looked;
-      timed = timed_rest c.args.desk.now c.args.job.now.seats c.turn_loop.new.seats (g.K.Clock.told c.args.job.now.watch.clock) e.ends;
+      timed = clocked_rest c.args.desk.now c.args.job.now.seats c.turn_loop.new.seats (g.K.Clock.told c.args.job.now.watch.clock) e.ends;
     }

@@ -1,12 +1,12 @@
 use Rattle.std.proofs.Common.{[]}
-use Rattle.codec_desk.specs.ClockLaws.{timed_none, timed_rest, timed_then}
+use Rattle.codec_desk.specs.TallyLaws.{clocked_none, clocked_rest, clocked_then}
 use Rattle.codec_desk.specs.DeskLaws.{settled_none, settled_then}
 use Rattle.codec_desk.specs.NamedLaws.{calls_none, calls_then}
 use Rattle.desk_threads.proofs.Resting.{items_rested, tasks_rested}
 use Rattle.desk_threads.proofs.settling.settle_desk.Goals as goal
 
 pub loop-init : goal.loop-init
-loop-init g c = (tt, tt, c.requires, settled_none c.args.desk.now c.args.seats.now c.requires, λ none. none, calls_none c.args.desk.now c.args.seats.now, timed_none c.args.desk.now c.args.seats.now (g.K.Clock.told c.args.clock.now) c.requires)
+loop-init g c = (tt, tt, c.requires, settled_none c.args.desk.now c.args.seats.now c.requires, λ none. none, calls_none c.args.desk.now c.args.seats.now, clocked_none c.args.desk.now c.args.seats.now (g.K.Clock.told c.args.clock.now) c.requires)
 
 pub item_round-worked-requires-after_bounds : goal.item_round-worked-requires-after_bounds
 item_round-worked-requires-after_bounds g c κs within = c.loop.invariant.2
@@ -30,9 +30,9 @@ loop-preserved g c =
       λ none. c.turn_round-turned.ensures.runs (c.item_round-worked.ensures.runs (c.loop.invariant.4 none)),
       calls_then desk a c.item_round-worked.new.seats c.turn_round-turned.new.seats [] []
           (calls_then desk a c.loop.seats c.item_round-worked.new.seats [] [] c.loop.invariant.5 c.item_round-worked.ensures.calls) c.turn_round-turned.ensures.calls,
-      timed_then desk a w b t u u
-          (timed_then desk a c.loop.seats w t (g.K.Clock.told c.loop.clock) u c.loop.invariant.6 c.item_round-worked.ensures.timed)
-          (timed_rest desk w b u c.turn_round-turned.ensures.ends),
+      clocked_then desk a w b t u u
+          (clocked_then desk a c.loop.seats w t (g.K.Clock.told c.loop.clock) u c.loop.invariant.6 c.item_round-worked.ensures.timed)
+          (clocked_rest desk w b u c.turn_round-turned.ensures.ends),
     )
 
 pub returns-then-not-either-clause-sits : goal.returns-then-not-either-clause-sits
@@ -82,6 +82,6 @@ returns-then-not-either-clause-timed g c =
     let b = c.turn_round-turned.new.seats in
     let t = g.K.Clock.told c.args.clock.now in
     let u = g.K.Clock.told c.item_round-worked.new.clock in
-    timed_then desk a w b t u u
-    (timed_then desk a c.loop.seats w t (g.K.Clock.told c.loop.clock) u c.loop.invariant.6 c.item_round-worked.ensures.timed)
-    (timed_rest desk w b u c.turn_round-turned.ensures.ends)
+    clocked_then desk a w b t u u
+    (clocked_then desk a c.loop.seats w t (g.K.Clock.told c.loop.clock) u c.loop.invariant.6 c.item_round-worked.ensures.timed)
+    (clocked_rest desk w b u c.turn_round-turned.ensures.ends)
