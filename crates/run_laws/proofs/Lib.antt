@@ -6,3 +6,4 @@ mod Together
 mod Lending
 mod Fitting
 mod Telling
+mod Reclaiming

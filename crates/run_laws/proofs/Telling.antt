@@ -1,5 +1,5 @@
 -- What the ends of items tell is what the log of their codec and the registry's history have.
-use Rattle.std.proofs.Common.{ℕ, suc, ◌+◌, ◌≡◌, ◌≤◌, ◌&&◌, not, Bool, true, false, cond, List, [], ◌∷◌, ◌++◌, length, Option, Some, None, is_some, refl, ap, sym, subst, ◌∙◌, arith, append_assoc, length-append}
+use Rattle.std.proofs.Common.{ℕ, suc, ◌≡◌, ◌≤◌, ◌&&◌, not, Bool, true, false, cond, List, [], ◌∷◌, ◌++◌, length, Option, Some, None, is_some, refl, ap, sym, subst, ◌∙◌, arith, append_assoc, length-append}
 use Rattle.std.proofs.lemmas.List.{nil_from_length}
 use Rattle.std.specs.Prelude.{option_to_list}
 use Rattle.std.specs.List.{flat_map}
@@ -279,7 +279,7 @@ log_tells k slots x ((n, Made e) ∷ ps) l s so_far w wanted f told whole later 
       rest,
     )
 
-opening_working : (o : Opening) → Working [] (opening_track o) nothing_started
+pub opening_working : (o : Opening) → Working [] (opening_track o) nothing_started
 opening_working o = record { long = refl; starts = λ h. no_true h; asked = λ h. no_true h; below = λ h. no_true h; runs = λ h. no_true h; since = λ h. no_true h; asks = λ h. no_true h }
 
 -- the acquires by a cause are those of its entries

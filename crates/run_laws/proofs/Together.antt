@@ -38,11 +38,11 @@ use Rattle.run_laws.proofs.Trying.{Working, tries_coming, log_ends}
 
 -- ---- codecs in order
 
-abbrev EachLog : (ℕ → Log Event → Type 0) → ℕ → List (Log Event) → Type 0
+abbrev pub EachLog : (ℕ → Log Event → Type 0) → ℕ → List (Log Event) → Type 0
 EachLog P k [] = Unit {0}
 EachLog P k (l ∷ ls) = P k l × EachLog P (suc k) ls
 
-each_from : (P : ℕ → Log Event → Type 0) (first : ℕ) (ls : List (Log Event)) → ((i : ℕ) → i < length ls → P (first + i) (at i ls)) → EachLog P first ls
+pub each_from : (P : ℕ → Log Event → Type 0) (first : ℕ) (ls : List (Log Event)) → ((i : ℕ) → i < length ls → P (first + i) (at i ls)) → EachLog P first ls
 each_from P first [] h = tt
 each_from P first (l ∷ ls) h =
     let z : first + 0 ≡ first = omega arith in (
@@ -280,7 +280,7 @@ module _ (made : List CoderId) (opening : ℕ → Opening) (logs : List (Log Eve
   abbrev done_acts : ℕ → List Act
   done_acts k = acts_at opening (histories_of logs) k
 
-  tries_same : (k p : ℕ) → k < length logs → tries_by (by.Codec k p) (slots_of opening k (at k logs)) ≡ tries_by (by.Codec k p) slots
+  pub tries_same : (k p : ℕ) → k < length logs → tries_by (by.Codec k p) (slots_of opening k (at k logs)) ≡ tries_by (by.Codec k p) slots
   tries_same k p lt =
       sym (tries_of_cause (by.Codec k p) (slots_of opening k (at k logs)))
       ∙ (ap (tries_by (by.Codec k p)) (paid.causes k p lt) ∙ tries_of_cause (by.Codec k p) slots)

@@ -1,16 +1,9 @@
 -- How a run of threads ends: all is done (our choice).
-use Rattle.std.specs.Prelude.{ℕ, suc, ◌+◌, ◌≡◌, ◌≢◌, ◌≤◌, ◌<◌, Bool, true, false, cond, List, [], ◌∷◌, length, Some, None}
-use Rattle.std.specs.List.{count_by}
+use Rattle.std.specs.Prelude.{ℕ, ◌≡◌, ◌≢◌, ◌<◌, [], length, Some, None}
 use Rattle.wc_base.specs.Views.{Log}
-use Rattle.wc_base.specs.declared.who.By.TheVariants as by
-use Rattle.coder_api.specs.declared.slot.SlotEntry.{SlotEntry}
-use Rattle.coder_api.specs.declared.slot.SlotOp.{SlotOp}
-use Rattle.coder_api.specs.declared.slot.SlotOp.TheVariants as slot
 use Rattle.codec_model.specs.declared.entry.Opening.{Opening}
 use Rattle.codec_model.specs.declared.entry.PromiseState.{PromiseState}
 use Rattle.codec_model.specs.declared.entry.PromiseState.TheVariants as promise
-use Rattle.codec_model.specs.declared.entry.Entry.{Entry}
-use Rattle.codec_model.specs.declared.entry.Entry.TheVariants as entry
 use Rattle.codec_model.specs.Control.{Control, start_item}
 use Rattle.codec_accounts.specs.Codec.{state_after}
 use Rattle.codec_accounts.specs.Owed.{at}
@@ -22,7 +15,7 @@ use Rattle.script_types.specs.declared.steps.Step.TheVariants as step
 use Rattle.report_text.specs.declared.result.StepResult.TheVariants as result
 use Rattle.run_model.specs.Recorded.{Recorded, opening_at, steps_of}
 use Rattle.run_model.specs.Fits.{step_in, result_in}
-use Rattle.run_laws.specs.Tries.{tries_by}
+use Rattle.run_laws.specs.Reclaims.{HasFewReclaims}
 
 -- no item of a codec is at work, none may start, and no event task is queued
 pub record IsAtRest (c : Control) : Type 0 where
@@ -34,36 +27,10 @@ pub record IsAtRest (c : Control) : Type 0 where
 abbrev pub LogRests : Opening → Log Event → Type 0
 LogRests o log = IsAtRest (track o log).state.control
 
--- ---- reclaims
-
-abbrev pub is_reclaim : Entry → Bool
-is_reclaim (entry.Reclaim moment) = true
-is_reclaim _ = false
-
-abbrev pub first_refused : List SlotOp → Bool
-first_refused (slot.Refused id out made ∷ rest) = true
-first_refused _ = false
-
--- how many starts of a codec had their first acquire refused, from the entry at this place on
-abbrev pub refused_in : List SlotEntry → ℕ → ℕ → List Entry → ℕ
-refused_in slots k place [] = 0
-refused_in slots k place (e ∷ es) = cond (first_refused (tries_by (by.Codec k place) slots)) 1 0 + refused_in slots k (suc place) es
-
--- the same of all codecs, from the codec with this number on
-abbrev pub all_refused : List SlotEntry → ℕ → List (List Entry) → ℕ
-all_refused slots k [] = 0
-all_refused slots k (h ∷ hs) = refused_in slots k 0 h + all_refused slots (suc k) hs
-
-abbrev pub all_reclaims : List (List Entry) → ℕ
-all_reclaims [] = 0
-all_reclaims (h ∷ hs) = count_by is_reclaim h + all_reclaims hs
-
--- ---- all of it
-
 -- Each caller made all its steps, none of its awaits was left pending, each codec is at rest, and there are at most as many reclaims
 -- as starts whose first acquire was refused.
 pub record EndsQuiet (s : ScriptData) (w : Recorded) : Type 0 where
   pub made : (c : ℕ) → length (at c w.callers) ≡ length (steps_of s c)
   pub awaits : (c j k n : ℕ) (on : Variable) (end : PromiseState) → step_in s c j ≡ Some (step.Await on) → result_in w c j ≡ Some (result.Look k n end) → end ≢ promise.Pending
   pub codecs : (k : ℕ) → k < length w.codecs → IsAtRest (state_after (opening_at s k) (at k w.codecs)).control
-  pub reclaims : all_reclaims w.codecs ≤ all_refused w.slots 0 w.codecs
+  pub reclaims : HasFewReclaims w.slots w.codecs

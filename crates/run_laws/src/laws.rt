@@ -1,11 +1,12 @@
 // Laws of what all threads of a run made.
-ghost use Rattle.std.specs.Prelude.{ℕ, ◌≡◌, ◌<◌, List, length};
+ghost use Rattle.std.specs.Prelude.{ℕ, ◌≡◌, ◌<◌, ◌≤◌, Bool, List, length};
 ghost use Rattle.codec_accounts.specs.Codec.{state_after};
 ghost use Rattle.codec_accounts.specs.Owed.{at};
 ghost use Rattle.codec_logs.specs.Logs.{IsLog, opening_track};
 ghost use Rattle.codec_logs.specs.declared.event.Event.{Event};
 ghost use Rattle.codec_model.specs.declared.entry.Opening.{Opening};
 ghost use Rattle.coder_api.specs.declared.slot.SlotEntry.{SlotEntry};
+ghost use Rattle.shared_codec.specs.Tallies.{reclaims, refusals, untimely};
 ghost use Rattle.run_laws.specs.Fits.{AreAtRest, FitsAsTried, ThreadsMade};
 ghost use Rattle.run_laws.specs.Paid.{RegistryIsPaid, by_cause, histories_of};
 ghost use Rattle.run_laws.specs.Told.{LogTellsEnds};
@@ -15,6 +16,7 @@ ghost use Rattle.shared_codec.specs.Told.{AreTold, end_dues};
 ghost use Rattle.wc_base.specs.declared.who.By.TheVariants as by;
 ghost use Rattle.run_laws.specs.PoolPaid.{CodecsArePaid, PoolIsPaid};
 ghost use Rattle.run_laws.specs.Quiet.{IsAtRest};
+ghost use Rattle.run_laws.specs.Reclaims.{HasFewReclaims, IsTimely, in_logs};
 ghost use Rattle.run_laws.specs.Tries.{BoxesAreTried};
 ghost use Rattle.run_model.specs.Recorded.{Recorded, opening_at};
 ghost use Rattle.script_types.specs.declared.script.ScriptData.{ScriptData};
@@ -65,4 +67,20 @@ pub fn threads_fit()
     ensures { (script : ScriptData) (media : List (List Chunk)) (made : List CoderId)
         (logs : List (Log Event)) (run : Recorded)
         → ThreadsMade script media made logs run → FitsAsTried script media made run }
+{}
+
+/// A law: where the logs of all codecs have at most as many reclaims as ends of items that tell of a first acquire that was refused,
+/// their histories have at most as many as starts whose first acquire was refused. Each such end is that of a start of its own.
+pub fn reclaims_are_few()
+    ensures { (made : List CoderId) (opening : ℕ → Opening) (logs : List (Log Event))
+        (slots : List SlotEntry)
+        → RegistryIsPaid made opening logs slots
+        → in_logs reclaims logs ≤ in_logs refusals logs
+        → HasFewReclaims slots (histories_of logs) }
+{}
+
+/// A law: where no event of the codecs' logs has a moment that does not fit, each moment of their histories fits.
+pub fn moments_fit()
+    ensures { (fits : ℕ → Bool) (logs : List (Log Event))
+        → in_logs (untimely fits) logs ≡ 0 → IsTimely fits (histories_of logs) }
 {}

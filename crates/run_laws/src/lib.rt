@@ -3,4 +3,7 @@
 
 mod laws;
 
-pub use laws::{boxes_are_tried, codecs_are_paid, codecs_rest, ends_are_told, threads_fit};
+pub use laws::{
+    boxes_are_tried, codecs_are_paid, codecs_rest, ends_are_told, moments_fit, reclaims_are_few,
+    threads_fit,
+};
