@@ -1,7 +1,8 @@
 -- What a desk leaves that was finished with nothing left to do.
 use Rattle.std.proofs.Common.{ℕ, zero, suc, ◌≡◌, ◌+◌, ◌<◌, true, List, [], ◌∷◌, ◌++◌, map, Option, Some, length, is_some, refl, ap, sym, subst, ◌∙◌, arith}
 use Rattle.std.specs.Prelude.{slice_get}
-use Rattle.std.specs.List.{flat_map}
+use Rattle.std.specs.List.{flat_map, sum_by}
+use Rattle.std.proofs.lemmas.List.Sums.{sum_by-cons, sum_by-append}
 use Rattle.atomic_table.specs.Seated.{TableId}
 use Rattle.atomic_table.specs.declared.shared.Seat.{Seat}
 use Rattle.wc_base.specs.Views.{Log}
@@ -23,7 +24,8 @@ use Rattle.shared_codec.specs.Shared.{Shared, FinishedAs}
 use Rattle.shared_codec.specs.Sums.{all_dues}
 use Rattle.shared_codec.specs.Told.{end_dues, AreTold}
 use Rattle.codec_desk.specs.Desks.{SitsAt}
-use Rattle.codec_desk.specs.Each.{Pairs}
+use Rattle.codec_desk.specs.Each.{Pairs, total_of}
+use Rattle.desk_threads.specs.Timely.{tally_all}
 use Rattle.desk_threads.specs.Accounts.{all_slot_calls, all_calls}
 use Rattle.desk_threads.specs.Orders.{IsWholeInOrder}
 use Rattle.desk_threads.specs.Runs.{EachIsQuiet, IsQuiet}
@@ -36,6 +38,7 @@ use Rattle.run_model.specs.Fits.{AreLegalTraces}
 use Rattle.run_model.specs.Recorded.{opening_of, opening_in}
 use Rattle.run_laws.specs.Paid.{histories_of, slots_of, all_slots}
 use Rattle.run_laws.specs.Quiet.{LogRests}
+use Rattle.run_laws.specs.Reclaims.{in_logs}
 use Rattle.wc_run.specs.Made.{calls_in}
 use Rattle.wc_run.specs.Traces.{trace_of}
 
@@ -86,6 +89,17 @@ module _ {S : Type 0} where
   pub logs_many : (us : List (Seat (Option S) (View Event))) → length (logs_in us) ≡ length us
   logs_many [] = refl
   logs_many (u ∷ us) = ap suc (logs_many us)
+
+  -- what the events of these logs count for
+  pub logs_count : (counts : Event → ℕ) (pool slots : TableId) (n : ℕ) (xs : List Shared) (us : List (Seat (Option S) (View Event))) → Pairs (SitsAt pool slots) n xs us → in_logs counts (logs_in us) ≡ tally_all counts xs us
+  logs_count counts pool slots n [] [] p = refl
+  logs_count counts pool slots n [] (u ∷ us) p = absurd p
+  logs_count counts pool slots n (x ∷ xs) [] p = absurd p
+  logs_count counts pool slots n (x ∷ xs) (u ∷ us) p =
+      let a = sum_by-cons (λ (l : Log Event). sum_by counts (entries_of l)) u.me.0.log (logs_in us) in
+      let b = sum_by-append counts (entries_of u.me.0.log) (total_of (λ (s : Shared) (v : Seat (Option S) (View Event)). entries_of v.me.0.log) xs us) in
+      let c = logs_count counts pool slots (suc n) xs us p.1 in
+      omega (arith, a, b, c)
 
   log_at : (us : List (Seat (Option S) (View Event))) (k : ℕ) (u : Seat (Option S) (View Event)) → slice_get us k ≡ Some u → at k (logs_in us) ≡ u.me.0.log
   log_at [] k u there = absurd cc

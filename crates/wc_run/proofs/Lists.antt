@@ -1,6 +1,7 @@
 -- Jobs, by their places.
-use Rattle.std.proofs.Common.{ℕ, zero, suc, ◌≡◌, ◌+◌, ◌-◌, ◌<◌, ◌≤◌, List, [], ◌∷◌, ◌++◌, Some, length, length-append, refl, ap, subst, arith}
+use Rattle.std.proofs.Common.{ℕ, zero, suc, ◌≡◌, ◌+◌, ◌-◌, ◌<◌, ◌≤◌, List, [], ◌∷◌, ◌++◌, Some, length, length-append, map, refl, ap, sym, subst, ◌∙◌, append-nil, append_assoc, arith}
 use Rattle.std.specs.Prelude.{slice_get}
+use Rattle.codec_desk.specs.DeskLaws.{map_both}
 use Rattle.report_text.specs.declared.result.StepResult.{StepResult}
 use Rattle.run_model.specs.declared.run.CallerTrace.{CallerTrace}
 use Rattle.wc_run.specs.declared.jobs.Role.TheVariants as role
@@ -52,6 +53,22 @@ noted_behind (suc w) (suc n) rs ts many = let e = noted_behind w n rs ts (omega 
 pub noted_many : (w n : ℕ) (rs : List StepResult) (ts : List CallerTrace) → length ts ≡ n - (w + 1) → length (noted (role_at w n) rs ts) ≡ suc n - (w + 1)
 noted_many w zero rs ts many = omega (arith, many)
 noted_many w (suc n) rs ts many = let e = noted_behind w n rs ts (omega (arith, many)) in omega (arith, e)
+
+-- ---- what elements tell
+
+-- one element more is told of in one list, and one less in the other
+pub told_more : {A B T : Type 0} (f : A → T) (h : B → T) (xs ys : List A) (x : A) (us vs : List B) (u : B) (all : List T) → ys ≡ xs ++ x ∷ [] → us ≡ u ∷ vs → f x ≡ h u → map f xs ++ map h us ≡ all → map f ys ++ map h vs ≡ all
+told_more {A} {B} {T} f h xs ys x us vs u all more less same tell =
+    ap (λ (l : List A). map f l ++ map h vs) more
+    ∙ (ap (λ (l : List T). l ++ map h vs) (map_both f xs (x ∷ []))
+    ∙ (append_assoc (map f xs) (f x ∷ []) (map h vs)
+    ∙ (ap (λ (t : T). map f xs ++ t ∷ map h vs) same
+    ∙ (ap (λ (l : List B). map f xs ++ map h l) (sym less) ∙ tell))))
+
+-- nothing is left of the other list
+pub told_all : {A B T : Type 0} (f : A → T) (h : B → T) (xs : List A) (us : List B) (all : List T) → length us ≡ 0 → map f xs ++ map h us ≡ all → map f xs ≡ all
+told_all f h xs [] all none tell = sym (append-nil (map f xs)) ∙ tell
+told_all f h xs (u ∷ us) all none tell = absurd (omega (arith, none))
 
 -- ---- lists by places
 

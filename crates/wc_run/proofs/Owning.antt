@@ -25,7 +25,7 @@ use Rattle.codec_desk.specs.declared.desk.Desk.{Desk}
 use Rattle.codec_desk.specs.declared.desk.Seats.{Seats}
 use Rattle.codec_desk.specs.Desks.{told, entry_for, pool_calls, Settled}
 use Rattle.desk_threads.specs.AccountLaws.{joined_view, left_made, new_made}
-use Rattle.desk_threads.specs.MadeLaws.{in_first, in_second, entries_continue, made_more, made_all}
+use Rattle.codec_desk.specs.MadeLaws.{in_first, in_second, entries_continue, made_more, made_all}
 use Rattle.desk_threads.specs.Parts.{AreSplit, AreTakenIn}
 use Rattle.media_accounts.specs.Accounts.{StepOp, own_by, own_in}
 use Rattle.desk_callers.specs.Acts.{SettledBy}

@@ -27,7 +27,7 @@ use Rattle.codec_desk.specs.DeskLaws.{map_both}
 use Rattle.codec_desk.specs.Desks.{told, InOrderSince, TellsSince, slot_calls, pool_calls}
 use Rattle.codec_desk.specs.Each.{Pairs, Each}
 use Rattle.desk_threads.specs.Accounts.{is_by_codec, for_codecs, Balanced}
-use Rattle.desk_threads.specs.MadeLaws.{made_more}
+use Rattle.codec_desk.specs.MadeLaws.{made_more}
 use Rattle.desk_threads.specs.Orders.{IsOrdered}
 use Rattle.media_accounts.specs.Accounts.{StepOp}
 use Rattle.desk_callers.specs.Acts.{SettledBy}

@@ -1,5 +1,5 @@
 -- A whole run.
-use Rattle.std.proofs.Common.{ℕ, ◌≡◌, ◌+◌, ◌<◌, true, inl, inr, List, [], map, Some, length, ap, sym, subst, ◌∙◌, arith}
+use Rattle.std.proofs.Common.{ℕ, ◌≡◌, ◌+◌, ◌<◌, ◌≤◌, Bool, true, inl, inr, List, [], map, Some, length, ap, sym, subst, ◌∙◌, arith}
 use Rattle.std.specs.Prelude.{slice_get}
 use Rattle.std.specs.List.{flat_map, sum_by}
 use Rattle.std.proofs.lemmas.Bool.{cases_lt}
@@ -25,6 +25,8 @@ use Rattle.shared_codec.specs.Told.{end_dues, AreTold}
 use Rattle.codec_desk.specs.declared.desk.Desk.{Desk}
 use Rattle.codec_desk.specs.declared.desk.Seats.{Seats}
 use Rattle.codec_desk.specs.Desks.{SitAt}
+use Rattle.shared_codec.specs.Tallies.{reclaims, refusals, untimely}
+use Rattle.desk_threads.specs.Timely.{tally_all, WholeInTime}
 use Rattle.desk_threads.specs.Accounts.{AllBalanced, all_calls}
 use Rattle.desk_threads.specs.Orders.{WholeInOrder}
 use Rattle.desk_threads.specs.Runs.{EachIsQuiet}
@@ -37,19 +39,19 @@ use Rattle.run_model.specs.declared.run.CodecTrace.{CodecTrace}
 use Rattle.run_model.specs.Fits.{AreLegalTraces, IsLegalRun, recorded_of}
 use Rattle.run_model.specs.Recorded.{Recorded, opening_at}
 use Rattle.media_accounts.specs.Accounts.{own_in}
-use Rattle.run_laws.specs.Fits.{AreAtRest, FitsAsTried}
+use Rattle.run_laws.specs.Fits.{AreAtRest}
 use Rattle.run_laws.specs.Paid.{by_cause, histories_of}
 use Rattle.run_laws.specs.Told.{LogTellsEnds}
 use Rattle.run_laws.specs.Quiet.{IsAtRest}
+use Rattle.run_laws.specs.Reclaims.{IsTimely, in_logs}
 use Rattle.wc_run.specs.Acted.{HaveActed, calls_of_all}
-use Rattle.wc_run.specs.Fits.{FitsByThreads}
 use Rattle.wc_run.specs.Made.{IsMade}
 use Rattle.wc_run.specs.Owned.{owns_at}
 use Rattle.wc_run.specs.Runnable.{IsDeskOf}
 use Rattle.wc_run.specs.Threads.{HaveRun}
 use Rattle.wc_run.specs.Traces.{IsLeftBy}
 use Rattle.wc_run.proofs.PoolEntries.{media_past, none_beyond}
-use Rattle.wc_run.proofs.Finishing.{Opens, opens_many, opening_there, logs_in, logs_many, histories_are, legal_traces, entries_are, all_well, logs_legal, logs_rest, slots_in_order, media_in_order, ends_told, slots_same, calls_same}
+use Rattle.wc_run.proofs.Finishing.{Opens, opens_many, opening_there, logs_in, logs_many, logs_count, histories_are, legal_traces, entries_are, all_well, logs_legal, logs_rest, slots_in_order, media_in_order, ends_told, slots_same, calls_same}
 use Rattle.wc_run.proofs.Owning.{owned_all}
 
 -- a law of run_laws
@@ -62,12 +64,9 @@ abbrev pub EndsTell : Type 0
 EndsTell = (k : ℕ) (opening : Opening) (log : Log Event) (slots : List SlotEntry) → IsLog k opening log → AreTold slots (all_dues end_dues k (opening_track opening) log)
     → ((place : ℕ) → by_cause (by.Codec k place) (all_dues slot_dues k (opening_track opening) log) ≡ by_cause (by.Codec k place) slots) → LogTellsEnds k opening slots log
 
--- and one of this crate
-abbrev pub MadeFits : Type 0
-MadeFits = (script : ScriptData) (media : List (List Chunk)) (made : List CoderId) (run : Run) → IsMade script media made run → FitsAsTried script media made (recorded_of run)
-
-pub fits_by_threads : MadeFits → (s : ScriptData) (media : List (List Chunk)) (made : List CoderId) (run : Run) → IsMade s media made run → FitsByThreads s media made run
-fits_by_threads law s media made run x = record { is_made = x; fits = law s media made run x }
+-- and one on moments
+abbrev pub MomentsFit : Type 0
+MomentsFit = (fits : ℕ → Bool) (logs : List (Log Event)) → in_logs (untimely fits) logs ≡ 0 → IsTimely fits (histories_of logs)
 
 module _ {C : Type 0} where
   pub desk_of : (s : ScriptData) (desk : Desk C) → Opens s.codecs desk.codecs.items → IsDeskOf s desk
@@ -80,17 +79,24 @@ module _ {C : Type 0} where
     held = left.held ∙ ap held_in (sym left.pool);
   }
 
+  -- the recorded histories are those of the logs that the seats have seen
+  histories_left : (desk : Desk C) (b : Seats C) (f : Finished C) (ts : List CallerTrace) (run : Run) → IsFinished desk b f → IsLeftBy ts f run → (recorded_of run).codecs ≡ histories_of (logs_in b.codecs.items)
+  histories_left desk b f ts run finished left = ap (map (λ (t : CodecTrace). t.entries)) left.codecs ∙ entries_are desk.codecs.items b.codecs.items f.codecs.items finished.codecs
+
+  pub is_timely : MomentsFit → (fits : ℕ → Bool) (desk : Desk C) (b : Seats C) (f : Finished C) (ts : List CallerTrace) (run : Run) → SitAt desk b → IsFinished desk b f → IsLeftBy ts f run → WholeInTime fits desk b → IsTimely fits (recorded_of run).codecs
+  is_timely law fits desk b f ts run sits finished left time = subst (IsTimely fits) (sym (histories_left desk b f ts run finished left)) (law fits (logs_in b.codecs.items) (logs_count (untimely fits) desk.pool desk.slots.id 0 desk.codecs.items b.codecs.items sits.codecs ∙ time.timely))
+
   pub is_made : CodecsRest → EndsTell → (s : ScriptData) (media : List (List Chunk)) (made : List CoderId) (desk : Desk C) (b : Seats C) (f : Finished C) (ts : List CallerTrace) (run : Run)
       → Opens s.codecs desk.codecs.items → SitAt desk b → desk.slots.made ≡ made → IsFinished desk b f → AllBalanced desk b → WholeInOrder desk b → EachIsQuiet desk.codecs.items b.codecs.items
-      → (x : HaveRun s media desk ts b) → SameBag (all_calls desk.codecs.items b.codecs.items) (calls_of_all x.deeds) → AllBy b.pool.me.0.numbers b.pool.me.0.log → IsLeftBy ts f run → IsMade s media made run
-  is_made rest tell s media made desk b f ts run o sits made_is finished balanced whole quiet x calls all left =
+      → (x : HaveRun s media desk ts b) → SameBag (all_calls desk.codecs.items b.codecs.items) (calls_of_all x.deeds) → tally_all reclaims desk.codecs.items b.codecs.items ≤ tally_all refusals desk.codecs.items b.codecs.items → AllBy b.pool.me.0.numbers b.pool.me.0.log → IsLeftBy ts f run → IsMade s media made run
+  is_made rest tell s media made desk b f ts run o sits made_is finished balanced whole quiet x calls few all left =
       let xs = desk.codecs.items in
       let us = b.codecs.items in
       let sl = b.slots.me.0.log in
       let pl = b.pool.me.0.log in
       let logs : List (Log Event) = logs_in us in
       let well = all_well desk.pool desk.slots.id sl pl 0 xs us f.codecs.items sits.codecs finished.codecs quiet whole in
-      let recorded : (recorded_of run).codecs ≡ histories_of logs = ap (map (λ (t : CodecTrace). t.entries)) left.codecs ∙ entries_are xs us f.codecs.items finished.codecs in
+      let recorded : (recorded_of run).codecs ≡ histories_of logs = histories_left desk b f ts run finished left in
       let legal = logs_legal desk.pool desk.slots.id sl pl s.codecs xs us o well in
       let openings : (k : ℕ) (y : Shared) → slice_get xs k ≡ Some y → y.opening ≡ opening_at s (0 + k) = λ k y there. opening_there s.codecs xs k y o there ∙ (let e : k ≡ 0 + k = omega arith in ap (opening_at s) e) in
       let slots : run.slots ≡ entries_of sl = left.slots ∙ finished.slots in
@@ -118,6 +124,7 @@ module _ {C : Type 0} where
         ]);
         told = λ k lt. tell k (opening_at s k) (at k logs) run.slots (legal k lt) (subst (λ (l : List SlotEntry). AreTold l (all_dues end_dues k (opening_track (opening_at s k)) (at k logs))) (sym slots) (ends_told desk.pool desk.slots.id sl pl s.codecs xs us o well k lt))
             (λ place. slots_in_order desk.pool desk.slots.id sl pl s.codecs xs us o well k place lt ∙ sym (ap (flat_map (slot_at k place)) slots));
+        few = (let a = logs_count reclaims desk.pool desk.slots.id 0 xs us sits.codecs in let c = logs_count refusals desk.pool desk.slots.id 0 xs us sits.codecs in omega (arith, few, a, c));
         deeds = x.deeds;
         acted = subst (λ (z : List (List Entry) × List CallerTrace). HaveActed s media z.0 0 z.1 x.deeds) (λ i. (acted_as i, callers_as i)) x.acted;
         calls = λ t. sym (ap (sum_by t) (calls_same (opening_at s) 0 desk.pool desk.slots.id xs us sits.codecs openings)) ∙ calls t;

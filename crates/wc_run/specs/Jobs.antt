@@ -1,12 +1,15 @@
 -- What the job of a thread of a run is before it is done, and what was done.
-use Rattle.std.specs.Prelude.{ℕ, ◌≡◌, ◌≢◌, false, List, [], Some, slice_get}
+use Rattle.std.specs.Prelude.{ℕ, ◌≡◌, ◌≢◌, Bool, false, List, [], Some, slice_get}
 use Rattle.wc_chunk.specs.declared.chunk.Chunk.{Chunk}
 use Rattle.shared_codec.specs.Order.{made_by}
 use Rattle.codec_desk.specs.declared.desk.Desk.{Desk}
+use Rattle.work_moments.specs.Moments.{Telling}
+use Rattle.codec_desk.specs.Clocks.{Clocked}
 use Rattle.codec_desk.specs.Desks.{SitAt}
 use Rattle.codec_desk.specs.Runs.{EachRunsNone}
 use Rattle.desk_threads.specs.Accounts.{Named}
 use Rattle.desk_threads.specs.Parts.{HaveParts}
+use Rattle.desk_threads.specs.Timely.{InTime}
 use Rattle.media_accounts.specs.Accounts.{own_in}
 use Rattle.desk_callers.specs.Acts.{histories_in}
 use Rattle.desk_callers.specs.Deeds.{Deed, calls_of, owns_of}
@@ -33,9 +36,14 @@ module _ {C K G : Type 0} (desk : Desk C) where
     pub called : Named desk [] job.seats
     pub owned : Owned none_owned job.seats
     pub first : (job.results.items ≡ []) × (job.variables ≡ [])
+    pub timed : (fits : ℕ → Bool) → InTime fits desk job.seats
 
   abbrev pub AreReady : List (Job C K G) → Type 0
   AreReady jobs = (i : ℕ) (job : Job C K G) → slice_get jobs i ≡ Some job → IsReady job
+
+  -- what each of these did is in time
+  abbrev pub AreInTime : (ℕ → Bool) → List (Job C K G) → Type 0
+  AreInTime fits jobs = (i : ℕ) (job : Job C K G) → slice_get jobs i ≡ Some job → InTime fits desk job.seats
 
   abbrev pub AreNew : List (Job C K G) → Type 0
   AreNew jobs = (i : ℕ) (job : Job C K G) → slice_get jobs i ≡ Some job → IsNew job
@@ -67,13 +75,16 @@ module _ {C K G : Type 0} (s : ScriptData) (media : List (List Chunk)) (desk : D
     pub paid : IsPaid desk job.seats
     pub did : RoleDid r job
 
-  pub record IsDone (was job : Job C K G) : Type 0 where
-    pub ready : IsReady desk job
-    pub done : job.wanted ≡ false → HasDone was.role job
-
-  abbrev pub AreDone : List (Job C K G) → List (Job C K G) → Type 0
-  AreDone before after = (i : ℕ) (was job : Job C K G) → slice_get before i ≡ Some was → slice_get after i ≡ Some job → IsDone was job
-
   -- the jobs of a run with so many workers were done, as far as no memory was wanted
   abbrev pub AllDone : ℕ → List (Job C K G) → Type 0
   AllDone workers jobs = (i : ℕ) (job : Job C K G) → slice_get jobs i ≡ Some job → job.wanted ≡ false → HasDone (role_at workers i) job
+
+-- The same, with clocks that tell this of themselves: whatever memory was wanted, it was done by the job's clock.
+module _ {C K G : Type 0} (told : K → Telling) (s : ScriptData) (media : List (List Chunk)) (desk : Desk C) where
+  pub record IsDone (was job : Job C K G) : Type 0 where
+    pub ready : IsReady desk job
+    pub done : job.wanted ≡ false → HasDone s media desk was.role job
+    pub timed : Clocked desk was.seats job.seats (told was.watch.clock) (told job.watch.clock)
+
+  abbrev pub AreDone : List (Job C K G) → List (Job C K G) → Type 0
+  AreDone before after = (i : ℕ) (was job : Job C K G) → slice_get before i ≡ Some was → slice_get after i ≡ Some job → IsDone was job

@@ -6,5 +6,6 @@ pub mod Owned
 pub mod Jobs
 pub mod Threads
 pub mod Traces
+pub mod InTime
 pub mod Made
 pub mod Fits

@@ -1,5 +1,5 @@
 -- What the threads of a run made.
-use Rattle.std.specs.Prelude.{ℕ, suc, ◌≡◌, ◌<◌, true, List, [], ◌∷◌, ◌++◌, length}
+use Rattle.std.specs.Prelude.{ℕ, suc, ◌≡◌, ◌<◌, ◌≤◌, true, List, [], ◌∷◌, ◌++◌, length}
 use Rattle.wc_base.specs.Views.{Log}
 use Rattle.wc_config.specs.declared.codec.CoderId.{CoderId}
 use Rattle.wc_chunk.specs.declared.chunk.Chunk.{Chunk}
@@ -20,6 +20,8 @@ use Rattle.run_model.specs.declared.run.Run.{Run}
 use Rattle.run_laws.specs.Paid.{histories_of, slots_of, all_slots, by_cause}
 use Rattle.run_laws.specs.PoolPaid.{media_of}
 use Rattle.run_laws.specs.Told.{LogTellsEnds}
+use Rattle.shared_codec.specs.Tallies.{reclaims, refusals}
+use Rattle.run_laws.specs.Reclaims.{in_logs}
 use Rattle.std.specs.List.{flat_map}
 use Rattle.shared_codec.specs.Order.{ops_at, done_at}
 use Rattle.run_laws.specs.Quiet.{IsAtRest}
@@ -50,6 +52,8 @@ pub record IsMade (s : ScriptData) (media : List (List Chunk)) (made : List Code
   pub slot_causes : (k place : ℕ) → k < length logs → by_cause (by.Codec k place) (slots_of (opening_at s) k (at k logs)) ≡ by_cause (by.Codec k place) run.slots
   -- the ends of items tell how their acquires went
   pub told : (k : ℕ) → k < length logs → LogTellsEnds k (opening_at s k) run.slots (at k logs)
+  -- at most as many events are reclaims as are ends of items that tell of a first acquire that was refused
+  pub few : in_logs reclaims logs ≤ in_logs refusals logs
   -- what the pool has by each entry of a codec is what that one's log calls for by it, in order
   pub media_causes : (k place : ℕ) → ops_at place (media_of (opening_at s) k (at k logs)) ≡ flat_map (done_at k place) run.pool
   -- each caller made all its steps: its deeds, in order

@@ -1,5 +1,5 @@
 -- A thread that made elsewhere what its entries call for.
-use Rattle.std.specs.Prelude.{ℕ, List}
+use Rattle.std.specs.Prelude.{ℕ, Bool, List}
 use Rattle.shared_codec.specs.Dues.{Called}
 use Rattle.codec_desk.specs.declared.desk.Desk.{Desk}
 use Rattle.codec_desk.specs.declared.desk.Seats.{Seats}
@@ -7,6 +7,7 @@ use Rattle.codec_desk.specs.Desks.{SitAt}
 use Rattle.codec_desk.specs.Runs.{EachRunsNone}
 use Rattle.desk_threads.specs.Accounts.{Balanced, Named}
 use Rattle.desk_threads.specs.Orders.{InOrder}
+use Rattle.desk_threads.specs.Timely.{InTime}
 use Rattle.media_accounts.specs.Accounts.{StepOp}
 use Rattle.wc_run.specs.Owned.{Owned}
 
@@ -23,3 +24,4 @@ module _ {C : Type 0} (desk : Desk C) where
     pub paid : IsPaid a → IsPaid b
     pub calls : (calls : List Called) → Named desk calls a → Named desk calls b
     pub owned : (mine : ℕ → List StepOp) → Owned mine a → Owned mine b
+    pub timed : (fits : ℕ → Bool) → InTime fits desk a → InTime fits desk b

@@ -1,5 +1,6 @@
 // What each thread of a run does, through seats of its own.
 ghost use Rattle.std.specs.Prelude.{ℕ, ◌≡◌, false, length};
+ghost use Rattle.codec_desk.specs.Clocks.{Clocked};
 ghost use Rattle.wc_run.specs.Jobs.{IsReady, IsNew, AreNew, CallerDid, HasDone, IsDone, AreDone};
 ghost use Rattle.wc_run.specs.Paid.{IsPaid};
 ghost use Rattle.wc_run.specs.Runnable.{IsRunnable, IsDeskOf};
@@ -60,6 +61,8 @@ fn make_steps<C: Coder, K: Clock, G: Gate, R: Wait>(
     ensures paid { job.new.wanted ≡ false → IsPaid desk.now job.new.seats }
     ensures did { job.new.wanted ≡ false
         → CallerDid script.now media.now desk.now caller job.new }
+    ensures timed { let told = K.told in Clocked desk.now job.old.seats job.new.seats
+        (told job.old.watch.clock) (told job.new.watch.clock) }
 {
     dues_add_up();
     order_is_kept();
@@ -94,7 +97,7 @@ fn run_job<C: Coder, K: Clock, G: Gate, R: Wait>(
     requires runnable { IsRunnable script.now }
     requires desk { IsDeskOf script.now desk.now }
     requires new { IsNew desk.now job.old }
-    ensures { IsDone script.now media.now desk.now job.old job.new }
+    ensures { IsDone K.told script.now media.now desk.now job.old job.new }
 {
     accounts_are_kept::<C>();
     order_stands::<C>();
@@ -131,7 +134,7 @@ pub(crate) fn run_jobs<C: Coder, K: Clock + Send, G: Gate + Send, R: Threads + W
     requires desk { IsDeskOf script.now desk.now }
     requires new { AreNew desk.now jobs.old }
     ensures many { length jobs.new ≡ length jobs.old }
-    ensures done { AreDone script.now media.now desk.now jobs.old jobs.new }
+    ensures done { AreDone K.told script.now media.now desk.now jobs.old jobs.new }
 {
     if jobs.is_empty() {
         return;
@@ -139,7 +142,7 @@ pub(crate) fn run_jobs<C: Coder, K: Clock + Send, G: Gate + Send, R: Threads + W
     let threads = jobs.len();
     let run = move |_place: usize, job: &mut Job<C, K, G>|
         requires { IsRunnable script.now × (IsDeskOf script.now desk.now × IsNew desk.now job.now) }
-        ensures { IsDone
+        ensures { IsDone K.told
             script.entry.now media.entry.now desk.entry.now job.entry.now job.exit.now }
     { run_job(rt, alloc, desk, script, media, callers, job) };
     thread::for_each_mut(rt, jobs, threads, &run);

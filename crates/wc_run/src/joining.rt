@@ -1,11 +1,12 @@
 // Jobs that are done.
-ghost use Rattle.std.specs.Prelude.{ℕ, ◌≡◌, ◌+◌, ◌-◌, ◌<◌, ◌≤◌, [], false, List, length, vec_capacity};
+ghost use Rattle.std.specs.Prelude.{ℕ, ◌≡◌, ◌+◌, ◌-◌, ◌<◌, ◌≤◌, [], Bool, false, List, length, vec_capacity};
 ghost use Rattle.codec_desk.specs.Desks.{SitAt};
 ghost use Rattle.codec_desk.specs.Runs.{EachRunsNone};
 ghost use Rattle.desk_threads.specs.Parts.{HaveParts};
 ghost use Rattle.script_types.specs.declared.script.ScriptData.{ScriptData};
 ghost use Rattle.wc_chunk.specs.declared.chunk.Chunk.{Chunk};
-ghost use Rattle.wc_run.specs.Jobs.{AreReady, AllDone};
+ghost use Rattle.desk_threads.specs.Timely.{InTime};
+ghost use Rattle.wc_run.specs.Jobs.{AreReady, AreInTime, AllDone};
 ghost use Rattle.wc_run.specs.Roles.{noted};
 ghost use Rattle.wc_run.specs.Threads.{RunsFrom};
 
@@ -13,7 +14,7 @@ use crate::jobs::{Job, Role};
 use crate::making::role_at;
 use codec_desk::{Desk, Seats};
 use coder_api::Coder;
-use desk_threads::{join_seats, order_stands};
+use desk_threads::{join_seats, order_stands, time_stands};
 use report_text::StepResult;
 use run_model::CallerTrace;
 use wc_base::List;
@@ -60,11 +61,14 @@ pub(crate) fn join_jobs<C: Coder, K: Drop, G: Drop>(
     ensures runs { EachRunsNone desk.now.codecs.items seats.old.codecs.items
         → EachRunsNone desk.now.codecs.items seats.new.codecs.items }
     ensures many { length traces.new.items ≡ length jobs.items - (workers + 1) }
+    ensures timed { (fits : ℕ → Bool) → AreInTime desk.now fits jobs.items
+        → InTime fits desk.now seats.old → InTime fits desk.now seats.new }
     ensures ran { (s : ScriptData) (media : List (List Chunk))
         → AllDone s media desk.now workers jobs.items → result ≡ false
         → RunsFrom s media desk.now seats.old traces.new.items seats.new }
 {
     order_stands::<C>();
+    time_stands::<C>();
     let mut any = false;
     let mut place = 0;
     for job in jobs {

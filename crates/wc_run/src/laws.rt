@@ -1,19 +1,25 @@
 // What the threads of a run made, against its script.
 ghost use Rattle.std.specs.Prelude.{List};
-ghost use Rattle.run_laws.specs.Fits.{FitsAsTried};
+ghost use Rattle.work_moments.specs.Moments.{Telling};
+ghost use Rattle.run_laws.specs.Reclaims.{IsTimely};
 ghost use Rattle.run_model.specs.Fits.{recorded_of};
 ghost use Rattle.run_model.specs.declared.run.Run.{Run};
 ghost use Rattle.script_types.specs.declared.script.ScriptData.{ScriptData};
 ghost use Rattle.wc_chunk.specs.declared.chunk.Chunk.{Chunk};
 ghost use Rattle.wc_config.specs.declared.codec.CoderId.{CoderId};
+ghost use Rattle.wc_run.specs.Fits.{FitsByThreads};
+ghost use Rattle.wc_run.specs.InTime.{some_may_give};
 ghost use Rattle.wc_run.specs.Made.{IsMade};
 
-use run_laws::threads_fit;
+use run_laws::{reclaims_are_few, threads_fit};
 
-/// A law: what the threads of a run made fits the script.
+/// A law: what the threads of a run made fits the script, where each moment is one that a clock handed in may give.
 pub fn made_fits()
-    ensures { (script : ScriptData) (media : List (List Chunk)) (made : List CoderId) (run : Run)
-        → IsMade script media made run → FitsAsTried script media made (recorded_of run) }
+    ensures { (script : ScriptData) (media : List (List Chunk)) (made : List CoderId)
+        (clocks : List Telling) (run : Run) → IsMade script media made run
+        → IsTimely (some_may_give clocks) (recorded_of run).codecs
+        → FitsByThreads script media made clocks run }
 {
     threads_fit();
+    reclaims_are_few();
 }

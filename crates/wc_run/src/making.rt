@@ -1,5 +1,7 @@
 // Jobs with seats of their own.
-ghost use Rattle.std.specs.Prelude.{ℕ, ◌≡◌, ◌+◌, ◌-◌, ◌<◌, ◌≤◌, [], length, vec_capacity, Some, slice_get, IfOk, IfErr, OnOk};
+ghost use Rattle.std.specs.Prelude.{ℕ, ◌≡◌, ◌+◌, ◌-◌, ◌<◌, ◌≤◌, ◌++◌, [], map, length};
+ghost use Rattle.std.specs.Prelude.{List, vec_capacity, Some, slice_get, IfOk, IfErr, OnOk};
+ghost use Rattle.work_moments.specs.Moments.{Telling};
 ghost use Rattle.codec_desk.specs.Desks.{SitAt};
 ghost use Rattle.desk_threads.specs.Parts.{HaveParts};
 ghost use Rattle.wc_run.specs.declared.jobs.Job.{Job};
@@ -8,9 +10,9 @@ ghost use Rattle.wc_run.specs.Paid.{Stays};
 ghost use Rattle.wc_run.specs.Roles.{role_at};
 
 use crate::jobs::{Job, Role};
-use codec_desk::{Desk, Seats, Watch};
+use codec_desk::{Clock, Desk, Seats, Watch};
 use coder_api::Coder;
-use desk_threads::{order_stands, split_seats};
+use desk_threads::{order_stands, split_seats, time_stands};
 use media_variables::Variables;
 use std::alloc::Global;
 use wc_base::NoMemory;
@@ -43,11 +45,13 @@ fn make_job<C: Coder, K: Drop, G: Drop>(
     requires two { 2 ≤ seats.old.pool.me.0.parts }
     ensures new { IfOk result (IsNew desk.now) }
     ensures role { IfOk result (λ job. job.role ≡ role) }
+    ensures watch { IfOk result (λ job. job.watch ≡ watch) }
     ensures stays { Stays desk.now seats.old seats.new }
     ensures parts { IfOk result (λ job. HaveParts (seats.old.pool.me.0.parts - 1) seats.new) }
     ensures same { IfErr result (λ e. seats.new ≡ seats.old) }
 {
     order_stands::<C>();
+    time_stands::<C>();
     let codecs = Vec::with_capacity(alloc, desk.codecs.len())?;
     let results = Vec::new(alloc);
     let variables = Variables::new(alloc);
@@ -62,7 +66,7 @@ fn make_job<C: Coder, K: Drop, G: Drop>(
 }
 
 /// A job for each clock with its gate, as far as there is memory: first a turner, then so many workers, and then the callers.
-pub(crate) fn make_jobs<C: Coder, K: Drop, G: Drop>(
+pub(crate) fn make_jobs<C: Coder, K: Clock + Drop, G: Drop>(
     alloc: Global,
     desk: &Desk<C>,
     seats: &mut Seats<C>,
@@ -84,6 +88,9 @@ pub(crate) fn make_jobs<C: Coder, K: Drop, G: Drop>(
         × (n + length jobs.new.items ≡ seats.old.pool.me.0.parts) }
     ensures all { OnOk result (length jobs.new.items ≡ length watches.items) }
     ensures within { length jobs.new.items ≤ length watches.items }
+    ensures clocks { (rest : List Telling)
+        × (map (λ j. K.told j.watch.clock) jobs.new.items ++ rest
+        ≡ map (λ w. K.told w.clock) watches.items) }
 {
     for watch in watches {
         let role = role_at(jobs.len(), workers);

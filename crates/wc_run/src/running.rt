@@ -1,9 +1,11 @@
 // A run of a script with threads.
-ghost use Rattle.std.specs.Prelude.{◌≡◌, ◌+◌, ◌<◌, ◌≤◌, None, IfOk, length, map, true};
+ghost use Rattle.std.specs.Prelude.{◌≡◌, ◌+◌, ◌<◌, ◌≤◌, None, IfOk, List, length, map, true};
 ghost use Rattle.run_model.specs.Fits.{IsLegalRun};
 ghost use Rattle.run_model.specs.Missing.{missing_in};
 ghost use Rattle.script_types.specs.Sound.{is_sound};
+ghost use Rattle.work_moments.specs.Moments.{Telling};
 ghost use Rattle.wc_run.specs.Fits.{FitsByThreads};
+ghost use Rattle.wc_run.specs.InTime.{Fits, FitEach, some_may_give};
 
 use crate::laws::made_fits;
 use crate::openings::{count_steps, openings_of};
@@ -12,8 +14,8 @@ use crate::traces::run_of;
 use codec_desk::{Clock, Gate, Watch};
 use coder_api::Coder;
 use desk_run::{finish_desk, open_desk, runs_begin};
-use desk_threads::{accounts_are_kept, calls_are_kept, order_stands, rest_is_quiet};
-use run_laws::{codecs_rest, ends_are_told};
+use desk_threads::{accounts_are_kept, calls_are_kept, order_stands, rest_is_quiet, time_stands};
+use run_laws::{codecs_rest, ends_are_told, moments_fit};
 use run_model::Run;
 use script_types::{Script, ScriptData};
 use std::alloc::Global;
@@ -23,13 +25,15 @@ use wc_base::{List, NoMemory};
 use wc_chunk::Chunk;
 
 // The clocks, each with a gate.
-fn watches_of<K: Drop, G: Drop>(
+fn watches_of<K: Clock + Drop, G: Drop>(
     alloc: Global,
     clocks: Vec<K>,
     mut gates: Vec<G>,
 ) -> Result<Vec<Watch<K, G>>, NoMemory>
     requires { length clocks.items ≤ length gates.items }
-    ensures { IfOk result (λ watches. length watches.items ≡ length clocks.items) }
+    ensures many { IfOk result (λ watches. length watches.items ≡ length clocks.items) }
+    ensures same { IfOk result
+        (λ watches. map (λ w. K.told w.clock) watches.items ≡ map K.told clocks.items) }
 {
     let mut watches = Vec::with_capacity(alloc, clocks.len())?;
     for clock in clocks {
@@ -56,16 +60,20 @@ fn run_script<C: Coder, K: Clock + Send + Drop, G: Gate + Send + Drop, R: Thread
     requires few { length watches.items < 4294967295 }
     requires watches { length watches.items ≡ workers + 1 + length script.now.callers }
     ensures legal { IfOk result (λ run. IsLegalRun script.now run) }
-    ensures fits { IfOk result
-        (λ run. FitsByThreads script.now media.now (map C.coder coders.items) run) }
+    ensures fits { (clocks : List Telling) → Fits (some_may_give clocks) (K.told clock.old)
+        → FitEach (some_may_give clocks) (map (λ w. K.told w.clock) watches.items)
+        → let made = map C.coder coders.items in
+        IfOk result (λ run. FitsByThreads script.now media.now made clocks run) }
 {
     accounts_are_kept::<C>();
     order_stands::<C>();
     calls_are_kept::<C>();
     rest_is_quiet::<C>();
+    time_stands::<C>();
     runs_begin::<C>();
     codecs_rest();
     ends_are_told();
+    moments_fit();
     made_fits();
     let openings = openings_of(alloc, script.codecs.as_slice())?;
     let calls = count_steps(script.callers.as_slice());
@@ -103,8 +111,9 @@ pub fn run<C: Coder, K: Clock + Send + Drop, G: Gate + Send + Drop, R: Threads +
     requires files { length media.now ≡ length script.now.chunk_files }
     requires chunks { missing_in script.now media.now ≡ None }
     ensures legal { IfOk result (λ run. IsLegalRun script.now run) }
-    ensures fits { IfOk result
-        (λ run. FitsByThreads script.now media.now (map C.coder coders.items) run) }
+    ensures fits { let made = map C.coder coders.items in
+        let told = map K.told clocks.items in
+        IfOk result (λ run. FitsByThreads script.now media.now made told run) }
 {
     let Some(mut clock) = clocks.pop() else {
         unreachable!()

@@ -1,10 +1,12 @@
 // The threads of a run on a desk.
-ghost use Rattle.std.specs.Prelude.{ℕ, ◌≡◌, ◌+◌, ◌<◌, ◌≤◌, [], length, vec_capacity, Some, slice_get, IfOk};
+ghost use Rattle.std.specs.Prelude.{ℕ, ◌≡◌, ◌+◌, ◌<◌, ◌≤◌, [], Bool, map, length, vec_capacity, Some, slice_get, IfOk};
 ghost use Rattle.codec_desk.specs.Desks.{SitAt};
 ghost use Rattle.codec_desk.specs.Runs.{EachRunsNone};
 ghost use Rattle.desk_threads.specs.Parts.{HaveParts};
 ghost use Rattle.desk_threads.specs.Rested.{CameToRest};
+ghost use Rattle.desk_threads.specs.Timely.{InTime};
 ghost use Rattle.wc_run.specs.declared.jobs.Job.{Job};
+ghost use Rattle.wc_run.specs.InTime.{Fits, FitEach};
 ghost use Rattle.wc_run.specs.Jobs.{AreNew};
 ghost use Rattle.wc_run.specs.Roles.{role_at};
 ghost use Rattle.wc_run.specs.Runnable.{IsRunnable, IsDeskOf};
@@ -15,7 +17,7 @@ use crate::joining::join_jobs;
 use crate::making::make_jobs;
 use codec_desk::{Clock, Desk, Gate, Seats, Watch};
 use coder_api::Coder;
-use desk_threads::{accounts_are_kept, order_stands, settle_desk};
+use desk_threads::{accounts_are_kept, order_stands, settle_desk, time_stands};
 use run_model::CallerTrace;
 use script_types::ScriptData;
 use std::alloc::Global;
@@ -55,7 +57,10 @@ fn do_jobs<C: Coder, K: Clock + Send + Drop, G: Gate + Send + Drop, R: Threads +
     ensures many { IfOk result (λ ts. length ts.items ≡ length script.now.callers) }
     ensures ran { IfOk result
         (λ ts. RunsFrom script.now media.now desk.now seats.old ts.items seats.new) }
+    ensures timed { (fits : ℕ → Bool) → FitEach fits (map (λ j. K.told j.watch.clock) jobs.items)
+        → InTime fits desk.now seats.old → InTime fits desk.now seats.new }
 {
+    time_stands::<C>();
     let callers = AtomicU64::new(script.callers.as_slice().len() as u64);
     run_jobs(
         rt,
@@ -97,6 +102,8 @@ fn run_threads<C: Coder, K: Clock + Send + Drop, G: Gate + Send + Drop, R: Threa
     ensures many { IfOk result (λ ts. length ts.items ≡ length script.now.callers) }
     ensures ran { IfOk result
         (λ ts. RunsFrom script.now media.now desk.now seats.old ts.items seats.new) }
+    ensures timed { (fits : ℕ → Bool) → FitEach fits (map (λ w. K.told w.clock) watches.items)
+        → InTime fits desk.now seats.old → InTime fits desk.now seats.new }
 {
     let Ok(mut traces) = Vec::with_capacity(alloc, watches.len()) else {
         return Err(NoMemory);
@@ -148,9 +155,13 @@ pub(crate) fn run_desk<
     ensures many { IfOk result (λ ts. length ts.items ≡ length script.now.callers) }
     ensures ran { IfOk result
         (λ ts. RunsFrom script.now media.now desk.now seats.old ts.items seats.new) }
+    ensures timed { (fits : ℕ → Bool) → Fits fits (K.told clock.old)
+        → FitEach fits (map (λ w. K.told w.clock) watches.items)
+        → InTime fits desk.now seats.old → InTime fits desk.now seats.new }
 {
     accounts_are_kept::<C>();
     order_stands::<C>();
+    time_stands::<C>();
     let traces = run_threads(rt, alloc, desk, seats, script, media, workers, watches);
     settle_desk(rt, alloc, desk, seats, clock, gate);
     traces

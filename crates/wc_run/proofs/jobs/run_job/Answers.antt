@@ -1,4 +1,5 @@
 use Rattle.std.proofs.Common.{[], sym, subst}
+use Rattle.codec_desk.specs.TallyLaws.{clocked_rest}
 use Rattle.desk_threads.specs.PartLaws.{parts_after}
 use Rattle.wc_run.specs.declared.jobs.Role.{Role}
 use Rattle.wc_run.specs.Jobs.{HasDone}
@@ -26,6 +27,7 @@ returns-in-Turner g c =
         paid = record { balanced = c.accounts_are_kept.ensures.kept desk a b e.settled was.paid.balanced; ordered = c.order_stands.ensures.kept desk a b e.settled was.paid.ordered };
         did = record { calls = no_more desk a b [] e.calls was.called; owned = owned_settled desk none_owned a b e.settled was.owned };
       });
+      timed = clocked_rest desk a b (g.K.Clock.told c.args.job.now.watch.clock) e.ends;
     }
 
 pub returns-in-Worker : goal.returns-in-Worker
@@ -41,6 +43,7 @@ returns-in-Worker g c =
         paid = record { balanced = c.accounts_are_kept.ensures.kept desk a b e.settled was.paid.balanced; ordered = c.order_stands.ensures.kept desk a b e.settled was.paid.ordered };
         did = record { calls = no_more desk a b [] e.calls was.called; owned = owned_settled desk none_owned a b e.settled was.owned };
       });
+      timed = e.timed;
     }
 
 pub returns-in-Caller : goal.returns-in-Caller
@@ -49,4 +52,5 @@ returns-in-Caller g c =
     record {
       ready = e.ready;
       done = λ none. subst (λ (r : Role). HasDone c.args.script.now c.args.media.now c.args.desk.now r c.make_steps.new.job) (sym c.in-Caller.is) (record { paid = e.paid none; did = e.did none });
+      timed = e.timed;
     }

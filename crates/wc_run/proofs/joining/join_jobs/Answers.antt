@@ -1,5 +1,6 @@
 use Rattle.std.proofs.Common.{rules, ℕ, ◌≡◌, ◌+◌, ◌-◌, false, List, length, refl, sym, ap, subst, ◌∙◌, arith}
 use Rattle.desk_threads.specs.Parts.{HaveParts}
+use Rattle.desk_threads.specs.Timely.{InTime}
 use Rattle.run_model.specs.declared.run.CallerTrace.{CallerTrace}
 use Rattle.wc_run.specs.declared.jobs.Job.{Job}
 use Rattle.wc_run.specs.declared.jobs.Role.{Role}
@@ -27,6 +28,10 @@ loop-job-init g c =
       rest = subst (λ (l : List J). From (λ i j. IsReady desk j) 0 l) (sym gives.0) (from_start (λ i j. IsReady desk j) c.args.jobs.items c.requires.ready);
       many = omega (arith, empty);
       room = refl;
+      timed = λ fits time. (
+        subst (λ (l : List J). From (λ i j. InTime fits desk j.seats) 0 l) (sym gives.0) (from_start (λ i (j : J). InTime fits desk j.seats) c.args.jobs.items time),
+        λ x. x,
+      );
       ran = λ s media done. (
         subst (λ (l : List J). From (λ i j. j.wanted ≡ false → HasDone s media desk (role_at c.args.workers i) j) 0 l) (sym gives.0)
             (from_start (λ i (j : J). j.wanted ≡ false → HasDone s media desk (role_at c.args.workers i) j) c.args.jobs.items done),
@@ -89,6 +94,11 @@ loop-job-preserved g c =
       rest = ready.1;
       many = omega (arith, count, more);
       room = c.note.ensures.room ∙ i.room;
+      timed = λ fits time. (
+          let r = i.timed fits time in
+          let d = subst (λ (l : List J). From (λ i j. InTime fits desk j.seats) n l) steps r.0 in
+          (d.1, λ x. c.time_stands.ensures.joined fits desk a job.seats b e.joined (r.1 x) d.0)
+          );
       ran = λ s media done. (
           let r = i.ran s media done in
           let d = subst (λ (l : List J). From (λ i j. j.wanted ≡ false → HasDone s media desk (role_at w i) j) n l) steps r.0 in (
@@ -127,6 +137,9 @@ returns-clause-many g c =
     let many = i.many in
     let all : c.loop-job.place ≡ length c.args.jobs.items = omega (arith, none, long, place) in
     many ∙ ap (λ (n : ℕ). n - (c.args.workers + 1)) all
+
+pub returns-clause-timed : goal.returns-clause-timed
+returns-clause-timed g c fits time x = (c.loop-job.invariant.timed fits time).1 x
 
 pub returns-clause-ran : goal.returns-clause-ran
 returns-clause-ran g c s media done none paid called own = (c.loop-job.invariant.ran s media done).1 paid called own none

@@ -14,6 +14,7 @@ returns-clause-new g c =
       called = e.new_calls;
       owned = owned_new c.args.desk.now c.args.seats.now c.split_seats.new.seats c.split_seats.result e.split;
       first = (c.new-results.ensures.items, c.new-variables.ensures);
+      timed = λ fits. c.time_stands.ensures.new fits c.args.desk.now c.args.seats.now c.split_seats.new.seats c.split_seats.result e.split;
     }
 
 pub returns-clause-stays : goal.returns-clause-stays
@@ -25,6 +26,7 @@ returns-clause-stays g c =
       paid = λ x. record { balanced = e.balanced x.balanced; ordered = c.order_stands.ensures.left c.args.desk.now c.args.seats.now c.split_seats.new.seats c.split_seats.result e.split x.ordered };
       calls = λ calls x. e.calls calls x;
       owned = λ mine x. owned_left c.args.desk.now mine c.args.seats.now c.split_seats.new.seats c.split_seats.result e.split x;
+      timed = λ fits x. c.time_stands.ensures.left fits c.args.desk.now c.args.seats.now c.split_seats.new.seats c.split_seats.result e.split x;
     }
 
 pub returns-clause-parts : goal.returns-clause-parts

@@ -1,11 +1,11 @@
 use Rattle.work_moments.specs.declared.gate.Watch.{Watch}
-use Rattle.std.proofs.Common.{rules, ◌≡◌, ◌∙◌, ◌∷◌, [], ℕ, List, Some, length, length-append, refl, sym, ap, subst, arith}
+use Rattle.std.proofs.Common.{rules, ◌≡◌, ◌∙◌, ◌∷◌, ◌++◌, [], map, ℕ, List, Some, length, length-append, refl, sym, ap, subst, arith}
 use Rattle.std.specs.Prelude.{slice_get}
 use Rattle.wc_run.specs.declared.jobs.Job.{Job}
 use Rattle.desk_threads.specs.Parts.{HaveParts}
 use Rattle.wc_run.specs.Jobs.{IsNew, AreNew}
 use Rattle.wc_run.specs.Roles.{role_at}
-use Rattle.wc_run.proofs.Lists.{none_at, more_at}
+use Rattle.wc_run.proofs.Lists.{told_more, none_at, more_at}
 use Rattle.wc_run.proofs.JobLists.{stays_none, stays_then}
 use Rattle.wc_run.proofs.making.make_jobs.Goals as goal
 
@@ -13,6 +13,7 @@ pub loop-watch-init : goal.loop-watch-init
 loop-watch-init g c =
     let gives = c.into_iter-watch-iterator.ensures.into_iter_gives in
     let J = Job g.row.C.Denot g.row.K.Denot g.row.G.Denot in
+    let W = Watch g.row.K.Denot g.row.G.Denot in
     let empty = c.requires.empty in
     let none = ap (λ (l : List J). length l) empty in
     let all = ap (λ (l : List (Watch g.row.K.Denot g.row.G.Denot)). length l) gives.0 in
@@ -24,6 +25,7 @@ loop-watch-init g c =
       roles = none_at (λ i (j : J). j.role ≡ role_at c.args.workers i) c.args.jobs.now.items empty;
       long = search rules;
       clocks = omega (arith, none, all);
+      tells = (λ i. map (λ (j : J). g.K.Clock.told j.watch.clock) (empty i) ++ map (λ (w : W). g.K.Clock.told w.clock) (gives.0 i));
       room = refl;
     }
 
@@ -53,6 +55,7 @@ make_job-requires-clause-two g c κs within =
 pub loop-watch-preserved : goal.loop-watch-preserved
 loop-watch-preserved g c =
     let J = Job g.row.C.Denot g.row.K.Denot g.row.G.Denot in
+    let W = Watch g.row.K.Denot g.row.G.Denot in
     let i = c.loop-watch.invariant in
     let e = c.in-Ok.ensures in
     let p = c.push_reserved.ensures in
@@ -75,5 +78,12 @@ loop-watch-preserved g c =
       roles = subst (λ (l : List J). (i : ℕ) (j : J) → slice_get l i ≡ Some j → j.role ≡ role_at c.args.workers i) (sym p.items) (more_at (λ i (j : J). j.role ≡ role_at c.args.workers i) xs job (e.role ∙ (c.role_at-role.ensures ∙ ap (role_at c.args.workers) (c.len.ensures ∙ c.loop-watch.jobs.ok.0))) i.roles);
       long = omega (arith, short, step, long);
       clocks = omega (arith, many, short, clocks);
+      tells = told_more (λ (j : J). g.K.Clock.told j.watch.clock) (λ (w : W). g.K.Clock.told w.clock) xs _ job _ _ c.in-Some.watch _ p.items steps.0 (ap (λ (w : W). g.K.Clock.told w.clock) e.watch) i.tells;
       room = p.capacity ∙ i.room;
     }
+
+pub returns-clause-clocks : goal.returns-clause-clocks
+returns-clause-clocks g c = (map (λ (w : Watch g.row.K.Denot g.row.G.Denot). g.K.Clock.told w.clock) _, c.loop-watch.invariant.tells)
+
+pub returns-in_default-clause-clocks : goal.returns-in_default-clause-clocks
+returns-in_default-clause-clocks g c = (map (λ (w : Watch g.row.K.Denot g.row.G.Denot). g.K.Clock.told w.clock) _, c.loop-watch.invariant.tells)

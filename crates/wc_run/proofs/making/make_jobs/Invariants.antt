@@ -1,4 +1,4 @@
-use Rattle.std.proofs.Common.{ℕ, ◌≡◌, ◌+◌, Some, length, vec_capacity}
+use Rattle.std.proofs.Common.{ℕ, ◌≡◌, ◌+◌, ◌++◌, Some, length, map, vec_capacity}
 use Rattle.std.specs.Prelude.{slice_get}
 use Rattle.std.specs.Vec.Iter.{into_iter_items, into_iter_len}
 use Rattle.desk_threads.specs.Parts.{HaveParts}
@@ -18,5 +18,6 @@ invariant-loop-watch g l = record {
   roles : (i : ℕ) (job : Job g.row.C.Denot g.row.K.Denot g.row.G.Denot) → slice_get l.jobs.items i ≡ Some job → job.role ≡ role_at l.fn.workers i;
   long : into_iter_len l.watch-iterator ≡ length (into_iter_items l.watch-iterator);
   clocks : length l.jobs.items + length (into_iter_items l.watch-iterator) ≡ length l.fn.watches.items;
+  tells : map (λ j. g.K.Clock.told j.watch.clock) l.jobs.items ++ map (λ w. g.K.Clock.told w.clock) (into_iter_items l.watch-iterator) ≡ map (λ w. g.K.Clock.told w.clock) l.fn.watches.items;
   room : vec_capacity l.jobs ≡ vec_capacity l.fn.jobs;
 }

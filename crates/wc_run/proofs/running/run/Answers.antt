@@ -1,6 +1,10 @@
-use Rattle.std.proofs.Common.{List, [], ◌∷◌, length, length-append, ap, ◌∙◌, arith}
+use Rattle.std.proofs.Common.{IfOk, List, [], ◌∷◌, map, length, length-append, ap, sym, subst, ◌∙◌, arith}
+use Rattle.work_moments.specs.Moments.{Telling}
 use Rattle.script_types.specs.declared.script.CallerItem.{CallerItem}
 use Rattle.script_types.specs.declared.script.ScriptData.{ScriptData}
+use Rattle.wc_run.specs.Fits.{FitsByThreads}
+use Rattle.wc_run.specs.InTime.{FitEach, some_may_give}
+use Rattle.wc_run.proofs.JobLists.{fit_last, fit_first}
 use Rattle.wc_run.proofs.Scripts.{few_callers}
 use Rattle.wc_run.proofs.running.run.Goals as goal
 
@@ -41,3 +45,13 @@ run_script-requires-clause-watches g c κs within =
     let many = c.requires.clocks in
     let same = c.in_ok-watches.ensures in
     omega (arith, callers, seen, here, cut, kept, before, popped, workers, many, same)
+
+pub returns-clause-fits : goal.returns-clause-fits
+returns-clause-fits g c =
+    let told = g.K.Clock.told in
+    let all : List g.row.K.Denot = c.args.clocks.items in
+    let tells = map told all in
+    let last = fit_last told all c.pop.new.self.items c.in-Some.clock c.in-Some.ensures.items in
+    let first = fit_first told all c.pop.new.self.items c.in-Some.clock _ c.in-Some.ensures.items in
+    let each = subst (λ (l : List Telling). FitEach (some_may_give tells) l) (sym (c.in_ok-watches.ensures.same ∙ ap (map told) c.truncate.ensures.items)) first in
+    subst (λ (s : ScriptData). IfOk c.run_script.result (FitsByThreads s c.args.media.now (map g.C.Coder.coder c.args.coders.items) tells)) c.data-data.ensures.data (c.run_script.ensures.fits tells last each)

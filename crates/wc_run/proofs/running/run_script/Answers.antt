@@ -8,12 +8,13 @@ use Rattle.run_model.specs.Fits.{IsLegalRun}
 use Rattle.run_model.specs.Recorded.{opening_of}
 use Rattle.wc_run.specs.Acted.{calls_of_all}
 use Rattle.wc_run.specs.Fits.{FitsByThreads}
+use Rattle.wc_run.specs.InTime.{some_may_give}
 use Rattle.wc_run.specs.Paid.{IsPaid}
 use Rattle.wc_run.specs.Traces.{IsLeftBy}
 use Rattle.wc_run.proofs.Finishing.{opens_of}
 use Rattle.wc_run.proofs.Owning.{owned_first}
 use Rattle.wc_run.proofs.Scripts.{may_open, few_codecs, runnable_of}
-use Rattle.wc_run.proofs.Whole.{desk_of, fits_by_threads, is_legal, is_made}
+use Rattle.wc_run.proofs.Whole.{desk_of, is_legal, is_made, is_timely}
 use Rattle.wc_run.proofs.running.run_script.Goals as goal
 
 pub open_desk-requires-clause-may : goal.open_desk-requires-clause-may
@@ -74,7 +75,7 @@ returns-in-Ok-clause-legal g c =
     IfOk-weaker c.run_of.result (IsLeftBy ts left) (IsLegalRun s) (λ run x. is_legal s desk b left ts run opens c.finish_desk-left.ensures.finished c.in-Ok.ensures.many x) c.run_of.ensures
 
 pub returns-in-Ok-clause-fits : goal.returns-in-Ok-clause-fits
-returns-in-Ok-clause-fits g c =
+returns-in-Ok-clause-fits g c clocks fit each =
     let s = c.args.script.now in
     let media = c.args.media.now in
     let made = map g.C.Coder.coder c.args.coders.items in
@@ -93,5 +94,7 @@ returns-in-Ok-clause-fits g c =
     let whole = c.order_stands.ensures.all desk b all x.paid.ordered in
     let calls = c.calls_are_kept.ensures.all desk b (calls_of_all x.deeds) all x.calls in
     let quiet = c.rest_is_quiet.ensures desk e.rested.0 b all (e.runs (c.runs_begin.ensures desk a opened.sits opened.none)) e.rested.1 in
-    IfOk-weaker c.run_of.result (IsLeftBy ts left) (FitsByThreads s media made)
-    (λ run y. fits_by_threads c.made_fits.ensures s media made run (is_made c.codecs_rest.ensures c.ends_are_told.ensures s media made desk b left ts run opens e.sits opened.made_is c.finish_desk-left.ensures.finished balanced whole quiet x calls all.pool y)) c.run_of.ensures
+    let time = c.time_stands.ensures.all (some_may_give clocks) desk b all (e.timed (some_may_give clocks) fit each (c.time_stands.ensures.first (some_may_give clocks) desk a opened.none)) in
+    IfOk-weaker c.run_of.result (IsLeftBy ts left) (FitsByThreads s media made clocks)
+    (λ run y. c.made_fits.ensures s media made clocks run (is_made c.codecs_rest.ensures c.ends_are_told.ensures s media made desk b left ts run opens e.sits opened.made_is c.finish_desk-left.ensures.finished balanced whole quiet x calls time.few all.pool y)
+    (is_timely c.moments_fit.ensures (some_may_give clocks) desk b left ts run e.sits c.finish_desk-left.ensures.finished y time)) c.run_of.ensures

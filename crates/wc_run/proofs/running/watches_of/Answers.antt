@@ -1,9 +1,11 @@
-use Rattle.std.proofs.Common.{rules, ◌∙◌, ◌∷◌, [], List, length, length-append, sym, ap, arith}
+use Rattle.std.proofs.Common.{rules, ◌∙◌, ◌∷◌, ◌++◌, [], List, map, refl, length, length-append, sym, ap, arith}
 use Rattle.work_moments.specs.declared.gate.Watch.{Watch}
+use Rattle.wc_run.proofs.Lists.{told_more, told_all}
 use Rattle.wc_run.proofs.running.watches_of.Goals as goal
 
 pub loop-clock-init : goal.loop-clock-init
 loop-clock-init g c =
+    let W = Watch g.row.K.Denot g.row.G.Denot in
     let all = ap (λ (l : List g.row.K.Denot). length l) c.into_iter-clock-iterator.ensures.into_iter_gives.0 in
     let none = ap (λ (l : List (Watch g.row.K.Denot g.row.G.Denot)). length l) c.in_ok-watches.ensures.items in
     let enough = c.requires in
@@ -13,6 +15,7 @@ loop-clock-init g c =
     record {
       long = search rules;
       many = omega (arith, none, all);
+      tells = (λ i. map (λ (w : W). g.K.Clock.told w.clock) (c.in_ok-watches.ensures.items i) ++ map g.K.Clock.told (c.into_iter-clock-iterator.ensures.into_iter_gives.0 i));
       enough = omega (arith, all, enough);
       room = omega (arith, room, len, long);
     }
@@ -42,13 +45,21 @@ loop-clock-preserved g c =
     record {
       long = omega (arith, short, step, long);
       many = omega (arith, more, short, many);
+      tells = told_more (λ (w : W). g.K.Clock.told w.clock) g.K.Clock.told c.loop-clock.watches.items _ w _ _ c.in-Some.clock _ p.items c.in-Some.ensures.steps.0 refl i.tells;
       enough = omega (arith, short, fewer, enough);
       room = omega (arith, same, room);
     }
 
-pub returns : goal.returns
-returns g c =
+pub returns-clause-many : goal.returns-clause-many
+returns-clause-many g c =
     let none = c.in-None.ensures.steps.0 in
     let long = c.loop-clock.invariant.long in
     let many = c.loop-clock.invariant.many in
     omega (arith, none, long, many)
+
+pub returns-clause-same : goal.returns-clause-same
+returns-clause-same g c =
+    let none = c.in-None.ensures.steps.0 in
+    let long = c.loop-clock.invariant.long in
+    let W = Watch g.row.K.Denot g.row.G.Denot in
+    told_all (λ (w : W). g.K.Clock.told w.clock) g.K.Clock.told c.loop-clock.watches.items _ _ (omega (arith, none, long)) c.loop-clock.invariant.tells

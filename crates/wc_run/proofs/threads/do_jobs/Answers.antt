@@ -2,8 +2,8 @@ use Rattle.std.proofs.Common.{◌∙◌, ℕ, List, length, sym, ap, subst, arit
 use Rattle.std.proofs.lemmas.List.{with_items_is}
 use Rattle.desk_threads.specs.Parts.{HaveParts}
 use Rattle.wc_run.specs.declared.jobs.Job.{Job}
-use Rattle.wc_run.specs.Jobs.{AreNew, AreReady, AreDone, AllDone}
-use Rattle.wc_run.proofs.JobLists.{all_ready, all_done}
+use Rattle.wc_run.specs.Jobs.{AreNew, AreReady, AreInTime, AreDone, AllDone}
+use Rattle.wc_run.proofs.JobLists.{all_ready, all_done, all_in_time}
 use Rattle.wc_run.proofs.threads.do_jobs.Goals as goal
 
 pub run_jobs-requires-clause-new : goal.run_jobs-requires-clause-new
@@ -17,8 +17,8 @@ join_jobs-requires-clause-ready g c κs within =
     let value = c.as_mut_slice.ensures.value in
     let many = c.run_jobs.ensures.many ∙ ap (λ (l : List J). length l) value in
     let same = with_items_is before after (many ∙ sym before.ok.0) in
-    let done = subst (λ (l : List J). AreDone c.args.script.now c.args.media.now c.args.desk.now l after) value c.run_jobs.ensures.done in
-    subst (λ (l : List J). AreReady c.args.desk.now l) (sym same) (all_ready c.args.script.now c.args.media.now c.args.desk.now before.items after many done)
+    let done = subst (λ (l : List J). AreDone g.K.Clock.told c.args.script.now c.args.media.now c.args.desk.now l after) value c.run_jobs.ensures.done in
+    subst (λ (l : List J). AreReady c.args.desk.now l) (sym same) (all_ready g.K.Clock.told c.args.script.now c.args.media.now c.args.desk.now before.items after many done)
 
 pub join_jobs-requires-clause-few : goal.join_jobs-requires-clause-few
 join_jobs-requires-clause-few g c κs within =
@@ -80,5 +80,31 @@ returns-clause-ran g c =
     let value = c.as_mut_slice.ensures.value in
     let many = c.run_jobs.ensures.many ∙ ap (λ (l : List J). length l) value in
     let same = with_items_is before after (many ∙ sym before.ok.0) in
-    let done = subst (λ (l : List J). AreDone s media desk l after) value c.run_jobs.ensures.done in
-    c.join_jobs.ensures.ran s media (subst (λ (l : List J). AllDone s media desk c.args.workers l) (sym same) (all_done s media desk c.args.workers before.items after many done c.requires.roles)) c.if-join_jobs.false
+    let done = subst (λ (l : List J). AreDone g.K.Clock.told s media desk l after) value c.run_jobs.ensures.done in
+    c.join_jobs.ensures.ran s media (subst (λ (l : List J). AllDone s media desk c.args.workers l) (sym same) (all_done g.K.Clock.told s media desk c.args.workers before.items after many done c.requires.roles)) c.if-join_jobs.false
+
+pub returns-then-join_jobs-clause-timed : goal.returns-then-join_jobs-clause-timed
+returns-then-join_jobs-clause-timed g c fits fit x =
+    let J = Job g.row.C.Denot g.row.K.Denot g.row.G.Denot in
+    let desk = c.args.desk.now in
+    let before = c.args.jobs in
+    let after = c.run_jobs.new.jobs in
+    let value = c.as_mut_slice.ensures.value in
+    let many = c.run_jobs.ensures.many ∙ ap (λ (l : List J). length l) value in
+    let same = with_items_is before after (many ∙ sym before.ok.0) in
+    let done = subst (λ (l : List J). AreDone g.K.Clock.told c.args.script.now c.args.media.now desk l after) value c.run_jobs.ensures.done in
+    c.join_jobs.ensures.timed fits
+    (subst (λ (l : List J). AreInTime desk fits l) (sym same) (all_in_time g.K.Clock.told c.args.script.now c.args.media.now desk c.time_stands.ensures fits before.items after many c.requires.new fit done)) x
+
+pub returns-clause-timed : goal.returns-clause-timed
+returns-clause-timed g c fits fit x =
+    let J = Job g.row.C.Denot g.row.K.Denot g.row.G.Denot in
+    let desk = c.args.desk.now in
+    let before = c.args.jobs in
+    let after = c.run_jobs.new.jobs in
+    let value = c.as_mut_slice.ensures.value in
+    let many = c.run_jobs.ensures.many ∙ ap (λ (l : List J). length l) value in
+    let same = with_items_is before after (many ∙ sym before.ok.0) in
+    let done = subst (λ (l : List J). AreDone g.K.Clock.told c.args.script.now c.args.media.now desk l after) value c.run_jobs.ensures.done in
+    c.join_jobs.ensures.timed fits
+    (subst (λ (l : List J). AreInTime desk fits l) (sym same) (all_in_time g.K.Clock.told c.args.script.now c.args.media.now desk c.time_stands.ensures fits before.items after many c.requires.new fit done)) x

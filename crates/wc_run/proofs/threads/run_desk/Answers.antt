@@ -26,3 +26,10 @@ returns-clause-ran g c =
     (λ ts x paid none own. (let y = x paid none own in
     run_settled s media desk ts.items m b e.settled e.calls (record { balanced = c.accounts_are_kept.ensures.kept desk m b e.settled y.paid.balanced; ordered = c.order_stands.ensures.kept desk m b e.settled y.paid.ordered }) y))
     c.run_threads-traces.ensures.ran
+
+pub returns-clause-timed : goal.returns-clause-timed
+returns-clause-timed g c fits fit each x =
+    let desk = c.args.desk.now in
+    let m = c.run_threads-traces.new.seats in
+    let b = c.settle_desk.new.seats in
+    c.time_stands.ensures.kept fits desk m b (g.K.Clock.told c.args.clock.now) (g.K.Clock.told c.settle_desk.new.clock) c.settle_desk.ensures.timed fit (c.run_threads-traces.ensures.timed fits each x)

@@ -1,9 +1,12 @@
-use Rattle.std.proofs.Common.{[], ℕ, subst}
+use Rattle.std.proofs.Common.{[], ℕ, List, map, sym, subst}
 use Rattle.std.proofs.lemmas.Result.{IfOk-weaker}
 use Rattle.desk_threads.specs.Parts.{HaveParts}
+use Rattle.work_moments.specs.Moments.{Telling}
+use Rattle.wc_run.specs.declared.jobs.Job.{Job}
+use Rattle.wc_run.specs.InTime.{FitEach}
 use Rattle.wc_run.specs.Owned.{none_owned}
 use Rattle.wc_run.specs.Threads.{RunsFrom}
-use Rattle.wc_run.proofs.JobLists.{new_ready}
+use Rattle.wc_run.proofs.JobLists.{new_ready, new_in_time, fit_front}
 use Rattle.wc_run.proofs.threads.run_threads.Goals as goal
 
 pub make_jobs-requires-clause-few : goal.make_jobs-requires-clause-few
@@ -47,3 +50,14 @@ returns-in-Err-clause-parts g c =
 
 pub returns-in-Err-clause-runs : goal.returns-in-Err-clause-runs
 returns-in-Err-clause-runs g c none = c.join_jobs.ensures.runs (c.make_jobs.ensures.stays.runs none)
+
+pub returns-in-Ok-make_jobs-clause-timed : goal.returns-in-Ok-make_jobs-clause-timed
+returns-in-Ok-make_jobs-clause-timed g c fits fit x =
+    let e = c.make_jobs.ensures in
+    let all = subst (λ (l : List Telling). FitEach fits l) (sym e.clocks.1) fit in
+    c.do_jobs.ensures.timed fits (fit_front fits (map (λ (j : Job g.row.C.Denot g.row.K.Denot g.row.G.Denot). g.K.Clock.told j.watch.clock) c.make_jobs.new.jobs.items) e.clocks.0 all) (e.stays.timed fits x)
+
+pub returns-in-Err-clause-timed : goal.returns-in-Err-clause-timed
+returns-in-Err-clause-timed g c fits fit x =
+    let e = c.make_jobs.ensures in
+    c.join_jobs.ensures.timed fits (new_in_time c.args.desk.now fits c.make_jobs.new.jobs.items e.new) (e.stays.timed fits x)
