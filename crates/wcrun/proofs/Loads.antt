@@ -2,7 +2,6 @@
 use Rattle.std.proofs.Common.{◌≡◌, ◌≢◌, ℕ, zero, suc, List, [], Option, None, Some, Result, Ok, Err, IfOk, refl, sym, ap, ◌∙◌, subst, inr, arith}
 use Rattle.wc_base.specs.Causes.{Rose}
 use Rattle.wc_chunk.specs.declared.chunk.Chunk.{Chunk}
-use Rattle.wc_config.specs.declared.codec.CoderId.{CoderId}
 use Rattle.script_types.specs.declared.script.ScriptData.{ScriptData}
 use Rattle.run_model.specs.declared.run.Run.{Run}
 use Rattle.run_model.specs.{Fits.IsLegalRun, Missing.missing_in}
@@ -11,7 +10,7 @@ use Rattle.load_script.specs.Script.{load_script}
 use Rattle.load_script.specs.declared.words.Load.{Load}
 use Rattle.load_summary.specs.{Lacks.LoadsLackNothing, Summary.load_text}
 use Rattle.wcrun.specs.Headline.{Reading, Writing, Holding, Headline, Decides, IsComplete, status_for, verb_in}
-use Rattle.wcrun.specs.Load.{IsLoaded}
+use Rattle.wcrun.specs.Load.{Supply, IsLoaded}
 use Rattle.wcrun.specs.Outcome.{Outcome, Loads, ComesBy, IsOutcome}
 use Rattle.wcrun.specs.Refusals.{memory_line}
 use Rattle.wcrun.specs.Words.{Command}
@@ -26,22 +25,22 @@ lacks_nothing s start n media law is none =
     subst (λ (m : List (List Chunk)). missing_in s m ≡ None) (sym none) (subst (λ (t : ScriptData). missing_in t [] ≡ None) (sym is) (law start n))
 
 -- the text of a run of the load's script is its summary
-pub summed : (load : Load) (ids : List CoderId) (s : ScriptData) (media : List (List Chunk)) (run : Run) (text : List ℕ) → s ≡ load_script load.start load.chunks → media ≡ []
-    → IsLegalRun s run → FitsByThreads s media ids run → text ≡ load_text load.start load.chunks run → IsLoaded load ids text
-summed load ids s media run text is none legal fits whole = record {
+pub summed : (load : Load) (supply : Supply) (s : ScriptData) (media : List (List Chunk)) (run : Run) (text : List ℕ) → s ≡ load_script load.start load.chunks → media ≡ []
+    → IsLegalRun s run → FitsByThreads s media supply.coders supply.clocks run → text ≡ load_text load.start load.chunks run → IsLoaded load supply text
+summed load supply s media run text is none legal fits whole = record {
   run = run;
   legal = subst (λ (t : ScriptData). IsLegalRun t run) is legal;
-  fits = subst (λ (m : List (List Chunk)). FitsByThreads (load_script load.start load.chunks) m ids run) none (subst (λ (t : ScriptData). FitsByThreads t media ids run) is fits);
+  fits = subst (λ (m : List (List Chunk)). FitsByThreads (load_script load.start load.chunks) m supply.coders supply.clocks run) none (subst (λ (t : ScriptData). FitsByThreads t media supply.coders supply.clocks run) is fits);
   whole = whole;
 }
 
-pub if_summed : {E X : Type 0} (bytes : X → List ℕ) (load : Load) (ids : List CoderId) (r : Result X E) (wanted : List ℕ) → ((text : List ℕ) → text ≡ wanted → IsLoaded load ids text) → IfOk r (λ x. bytes x ≡ wanted) → IfOk r (λ x. IsLoaded load ids (bytes x))
-if_summed bytes load ids (Ok x) wanted f h = f (bytes x) h
-if_summed bytes load ids (Err e) wanted f h = tt
+pub if_summed : {E X : Type 0} (bytes : X → List ℕ) (load : Load) (supply : Supply) (r : Result X E) (wanted : List ℕ) → ((text : List ℕ) → text ≡ wanted → IsLoaded load supply text) → IfOk r (λ x. bytes x ≡ wanted) → IfOk r (λ x. IsLoaded load supply (bytes x))
+if_summed bytes load supply (Ok x) wanted f h = f (bytes x) h
+if_summed bytes load supply (Err e) wanted f h = tt
 
-pub headline_of_load : (r : Reading) (ids : List CoderId) (w : Writing) (load : Load) (text : List ℕ) → verb_in r.command ≡ Some (Verb.Load load) → IsLoaded load ids text → WritesText text w → Headline r ids w
-headline_of_load r ids w load text asked loaded p =
-    headline_of_whole r ids w text (inr (inr (record { load = load; asked = asked; loaded = loaded }))) p
+pub headline_of_load : (r : Reading) (supply : Supply) (w : Writing) (load : Load) (text : List ℕ) → verb_in r.command ≡ Some (Verb.Load load) → IsLoaded load supply text → WritesText text w → Headline r supply w
+headline_of_load r supply w load text asked loaded p =
+    headline_of_whole r supply w text (inr (inr (record { load = load; asked = asked; loaded = loaded }))) p
 
 -- so many is none, where only 5 and 6 are others
 only_none : (n : ℕ) → (n ≢ 0 → n ≢ 6 → n ≡ 5) → n ≢ 5 → n ≢ 6 → n ≡ 0

@@ -5,7 +5,6 @@
 use Rattle.std.specs.Prelude.{ℕ, ◌≡◌, ◌≢◌, ◌⊎◌, List, [], ◌∷◌, ◌++◌, Option, Some, None, IfSome, IsSomeAnd, MatchOption, Ok, Err}
 use Rattle.wc_base.specs.Causes.{Rose, RoseBy}
 use Rattle.wc_base.specs.Told.{appended, AppendsPart}
-use Rattle.wc_config.specs.declared.codec.CoderId.{CoderId}
 use Rattle.script_types.specs.declared.fault.Counted.TheVariants as counted
 use Rattle.script_types.specs.declared.fault.Fault.{Fault}
 use Rattle.script_types.specs.declared.fault.Fault.TheVariants as fault
@@ -20,7 +19,7 @@ use Rattle.media_files.specs.Media.{IsReached}
 use Rattle.wcrun.specs.Refusals.{status_of, line_of, usage_line, memory_line}
 use Rattle.wcrun.specs.Outcome.{Ready, Ending, Runs, Outcome, playable_of, IsOutcome}
 use Rattle.wcrun.specs.Probe.{IsMediaLine}
-use Rattle.wcrun.specs.Load.{IsLoaded}
+use Rattle.wcrun.specs.Load.{Supply, IsLoaded}
 use Rattle.wcrun.specs.Words.{Command}
 use Rattle.wcrun.specs.declared.command.Mode.{Mode}
 use Rattle.wcrun.specs.declared.command.Mode.TheVariants as mode
@@ -91,24 +90,23 @@ file_in (Some c) = Some c.file
 
 -- What a run is of a script and the chunks of its chunk files: a replay fits them and follows the order, and one with threads fits
 -- them as runs of threads do, and is what these made.
-abbrev pub IsRunBy : Mode → List CoderId → Ready → Run → Type 0
-IsRunBy mode.InOrder coders ready run = FitsInOrder ready.script ready.media coders run
-IsRunBy (mode.Threads workers) coders ready run = FitsByThreads ready.script ready.media coders run
+abbrev pub IsRunBy : Mode → Supply → Ready → Run → Type 0
+IsRunBy mode.InOrder supply ready run = FitsInOrder ready.script ready.media supply.coders run
+IsRunBy (mode.Threads workers) supply ready run = FitsByThreads ready.script ready.media supply.coders supply.clocks run
 
--- A run that is legal, of the script that the file's bytes spell, with the chunks of its chunk files; `coders` has the ids of the
--- coders that were handed in.
-pub record IsRunOf (m : Mode) (r : Reading) (coders : List CoderId) (ready : Ready) (run : Run) : Type 0 where
+-- A run that is legal, of the script that the file's bytes spell, with the chunks of its chunk files.
+pub record IsRunOf (m : Mode) (r : Reading) (supply : Supply) (ready : Ready) (run : Run) : Type 0 where
   pub spelled : ComesTo r (Ok (Runs ready))
   pub legal : IsLegalRun ready.script run
-  pub fits : IsRunBy m coders ready run
+  pub fits : IsRunBy m supply ready run
 
 -- The text is the report of such a run, for which the words ask.
-pub record IsReport (r : Reading) (coders : List CoderId) (text : List ℕ) : Type 0 where
+pub record IsReport (r : Reading) (supply : Supply) (text : List ℕ) : Type 0 where
   pub mode : Mode
   pub asked : verb_in r.command ≡ Some (verb.Run mode)
   pub ready : Ready
   pub run : Run
-  pub ran : IsRunOf mode r coders ready run
+  pub ran : IsRunOf mode r supply ready run
   pub whole : text ≡ report_of ready.script run
 
 -- The text is the line of the media file for which the words ask.
@@ -119,26 +117,26 @@ pub record IsProbe (r : Reading) (text : List ℕ) : Type 0 where
   pub line : IsMediaLine bytes text
 
 -- The text is the summary of the load for which the words ask.
-pub record IsSummary (r : Reading) (coders : List CoderId) (text : List ℕ) : Type 0 where
+pub record IsSummary (r : Reading) (supply : Supply) (text : List ℕ) : Type 0 where
   pub load : Load
   pub asked : verb_in r.command ≡ Some (verb.Load load)
-  pub loaded : IsLoaded load coders text
+  pub loaded : IsLoaded load supply text
 
 -- The text is what the command writes.
-abbrev pub IsWhole : Reading → List CoderId → List ℕ → Type 0
-IsWhole r coders text = IsReport r coders text ⊎ (IsProbe r text ⊎ IsSummary r coders text)
+abbrev pub IsWhole : Reading → Supply → List ℕ → Type 0
+IsWhole r supply text = IsReport r supply text ⊎ (IsProbe r text ⊎ IsSummary r supply text)
 
 -- The text is a beginning of what the command writes.
-pub record IsBegun (r : Reading) (coders : List CoderId) (text : List ℕ) : Type 0 where
+pub record IsBegun (r : Reading) (supply : Supply) (text : List ℕ) : Type 0 where
   pub all : List ℕ
   pub rest : List ℕ
-  pub is_whole : IsWhole r coders all
+  pub is_whole : IsWhole r supply all
   pub whole : text ++ rest ≡ all
 
 -- The text is nothing, or a beginning of what the command writes, and then the line for want of memory.
-pub record IsCut (r : Reading) (coders : List CoderId) (text : List ℕ) : Type 0 where
+pub record IsCut (r : Reading) (supply : Supply) (text : List ℕ) : Type 0 where
   pub part : List ℕ
-  pub begun : (part ≡ []) ⊎ IsBegun r coders part
+  pub begun : (part ≡ []) ⊎ IsBegun r supply part
   pub whole : text ≡ part ++ memory_line
 
 -- The name is that of the command's file, or of a chunk file that the script in it mentions, before which each gave its
@@ -182,22 +180,22 @@ IsRefusal r status text = IsUsage r status text ⊎ TellsFault r status text
 
 -- The four parts. With status 0 the sink's bytes are the earlier ones, followed by what the command writes: the report of a
 -- run that is legal and fits the script, the line of the media file, or the summary of the load.
-pub record Written (r : Reading) (coders : List CoderId) (w : Writing) : Type 0 where
+pub record Written (r : Reading) (supply : Supply) (w : Writing) : Type 0 where
   pub text : List ℕ
-  pub is_whole : IsWhole r coders text
+  pub is_whole : IsWhole r supply text
   pub told : w.after ≡ appended w.before text
 
 -- With status 6 nothing or a beginning of that was added, and then the line `out of memory`.
-pub record OutOfMemory (r : Reading) (coders : List CoderId) (w : Writing) : Type 0 where
+pub record OutOfMemory (r : Reading) (supply : Supply) (w : Writing) : Type 0 where
   pub text : List ℕ
-  pub cut : IsCut r coders text
+  pub cut : IsCut r supply text
   pub told : w.after ≡ appended w.before text
 
 -- With status 5 a beginning of a text that another status allows was added, and a write failed in this call.
-pub record SinkFailed (r : Reading) (coders : List CoderId) (w : Writing) : Type 0 where
+pub record SinkFailed (r : Reading) (supply : Supply) (w : Writing) : Type 0 where
   pub rose : Rose w.faults_before w.faults_after
   pub text : List ℕ
-  pub allowed : IsWhole r coders text ⊎ (IsCut r coders text ⊎ ((status : ℕ) × IsRefusal r status text))
+  pub allowed : IsWhole r supply text ⊎ (IsCut r supply text ⊎ ((status : ℕ) × IsRefusal r status text))
   pub part : AppendsPart w.before text w.after
 
 -- With every other status the line of a refusal was added, which comes only where its cause is.
@@ -206,10 +204,10 @@ pub record Refused (r : Reading) (w : Writing) : Type 0 where
   pub line : IsRefusal r w.answer text
   pub told : w.after ≡ appended w.before text
 
-pub record Headline (r : Reading) (coders : List CoderId) (w : Writing) : Type 0 where
-  pub written : w.answer ≡ 0 → Written r coders w
-  pub out_of_memory : w.answer ≡ 6 → OutOfMemory r coders w
-  pub sink_failed : w.answer ≡ 5 → SinkFailed r coders w
+pub record Headline (r : Reading) (supply : Supply) (w : Writing) : Type 0 where
+  pub written : w.answer ≡ 0 → Written r supply w
+  pub out_of_memory : w.answer ≡ 6 → OutOfMemory r supply w
+  pub sink_failed : w.answer ≡ 5 → SinkFailed r supply w
   pub refused : w.answer ≢ 0 → w.answer ≢ 5 → w.answer ≢ 6 → Refused r w
 
 -- the status for what a file's bytes come to, where nothing fails

@@ -3,13 +3,12 @@ ghost use Rattle.std.specs.Prelude.{◌≡◌, ◌≤◌, ◌⊎◌, true, map, 
 ghost use Rattle.run_model.specs.Fits.{IsLegalRun};
 ghost use Rattle.run_model.specs.Missing.{missing_in};
 ghost use Rattle.trace_text.specs.Report.{report_of};
-ghost use Rattle.wc_config.specs.declared.codec.CoderId.{CoderId};
 ghost use Rattle.wcrun.specs.Words.{words_of, command_of, to_probe, to_run, IsInRange};
 ghost use Rattle.wcrun.specs.declared.command.Mode.TheVariants as modes;
 ghost use Rattle.wcrun.specs.declared.command.Verb.TheVariants as verb;
 ghost use Rattle.wcrun.specs.Refusals.{status_of, line_of, usage_line, memory_line};
 ghost use Rattle.wcrun.specs.Headline.{reading, writing, IsRunBy, IsRunOf, Headline, Decides, IsComplete};
-ghost use Rattle.wcrun.specs.Load.{EndsLoad};
+ghost use Rattle.wcrun.specs.Load.{Supply, supply_of, EndsLoad};
 ghost use Rattle.wcrun.specs.Stops.{MayStop};
 ghost use Rattle.wcrun.specs.Writing.{WritesText, WritesLine};
 
@@ -49,7 +48,8 @@ fn run_by<C: Coder, K: Clock + Send + Drop, G: Gate + Send + Drop, R: Threads + 
     requires each { length prepared.now.media.items ≡ length prepared.now.script.chunk_files }
     requires there { missing_in prepared.now.script prepared.now.media.items ≡ None }
     ensures legal { IfOk result (λ run. IsLegalRun prepared.now.script run) }
-    ensures fits { IfOk result (λ run. IsRunBy mode (map C.coder coders.items)
+    ensures fits { IfOk result (λ run. IsRunBy mode
+        (supply_of (map C.coder coders.items) (map K.told clocks.items))
         (record { script = prepared.now.script; media = prepared.now.media.items }) run) }
 {
     match mode {
@@ -78,7 +78,8 @@ fn ran<F: Files, C: Coder, K: Clock + Send + Drop, G: Gate + Send + Drop, R: Thr
     ensures ok { IfOk result (λ d. IsRunOf mode (reading (to_run mode name.now) (F.content files.old)
         (F.faults files.old) (F.faults files.new)
         (F.bytes_read files.old) (F.bytes_read files.new)
-        (F.failed_names files.old) (F.failed_names files.new)) (map C.coder coders.items)
+        (F.failed_names files.old) (F.failed_names files.new))
+        (supply_of (map C.coder coders.items) (map K.told clocks.items))
         (record { script = d.prepared.script; media = d.prepared.media.items }) d.run) }
     ensures stop { IfErr result (λ e. MayStop (reading (to_run mode name.now) (F.content files.old)
         (F.faults files.old) (F.faults files.new)
@@ -172,7 +173,8 @@ fn run_named<
     ensures headline { Headline
         (reading (to_run mode name.now) (F.content files.old) (F.faults files.old) (F.faults files.new)
         (F.bytes_read files.old) (F.bytes_read files.new)
-        (F.failed_names files.old) (F.failed_names files.new)) (map C.coder coders.items)
+        (F.failed_names files.old) (F.failed_names files.new))
+        (supply_of (map C.coder coders.items) (map K.told clocks.items))
         (writing (S.told sink.old) (S.told sink.new) (S.faults sink.old) (S.faults sink.new) result) }
     ensures decided { Decides
         (reading (to_run mode name.now) (F.content files.old) (F.faults files.old) (F.faults files.new)
@@ -208,10 +210,10 @@ pub(crate) fn tell<S: Sink>(text: &str, sink: &mut S) -> u8
 
 // Ends with the line of the media file of this name, or with the line of why there is none.
 fn probe_named<F: Files, S: Sink>(alloc: Global, name: &str, files: &mut F, sink: &mut S) -> u8
-    ensures headline { (ids : List CoderId) → Headline
+    ensures headline { (supply : Supply) → Headline
         (reading (to_probe name.now) (F.content files.old) (F.faults files.old) (F.faults files.new)
         (F.bytes_read files.old) (F.bytes_read files.new)
-        (F.failed_names files.old) (F.failed_names files.new)) ids
+        (F.failed_names files.old) (F.failed_names files.new)) supply
         (writing (S.told sink.old) (S.told sink.new) (S.faults sink.old) (S.faults sink.new) result) }
     ensures decided { Decides
         (reading (to_probe name.now) (F.content files.old) (F.faults files.old) (F.faults files.new)
@@ -266,7 +268,8 @@ pub fn top<
     ensures headline { Headline
         (reading (command_of (words_of words.now)) (F.content files.old) (F.faults files.old) (F.faults files.new)
         (F.bytes_read files.old) (F.bytes_read files.new)
-        (F.failed_names files.old) (F.failed_names files.new)) (map C.coder coders.items)
+        (F.failed_names files.old) (F.failed_names files.new))
+        (supply_of (map C.coder coders.items) (map K.told clocks.items))
         (writing (S.told sink.old) (S.told sink.new) (S.faults sink.old) (S.faults sink.new) result) }
     ensures decided { Decides
         (reading (command_of (words_of words.now)) (F.content files.old) (F.faults files.old) (F.faults files.new)

@@ -25,9 +25,9 @@ fn micros(passed: Duration) -> u64 {
 }
 
 impl<R: rt::Clock> Clock for SystemClock<R> {
-    ghost use Rattle.std.specs.Prelude.{None};
+    ghost use Rattle.work_moments.specs.Moments.{silent};
 
-    ghost told = { λ _. None };
+    ghost told = { λ _. silent };
 
     fn now(&mut self) -> u64 {
         let Some(start) = self.start else {

@@ -1,5 +1,5 @@
 // Runs with threads, with gates and clocks of a test's own.
-ghost use Rattle.std.specs.Prelude.{None};
+ghost use Rattle.work_moments.specs.Moments.{silent};
 
 use crate::codecs::{all_codecs, coder_box, kind_of};
 use crate::top;
@@ -90,7 +90,7 @@ struct LeapingClock {
 }
 
 impl Clock for LeapingClock {
-    ghost told = { λ _. None };
+    ghost told = { λ _. silent };
 
     fn now(&mut self) -> u64 {
         self.last.fetch_add(10_000_001, Ordering::SeqCst)

@@ -1,7 +1,7 @@
 // A load, run with four workers, and its summary.
 ghost use Rattle.std.specs.Prelude.{◌≡◌, ◌≢◌, ◌≤◌, IfOk, Some, length, map, string_bytes};
 ghost use Rattle.wcrun.specs.Headline.{Reading, writing, verb_in, Headline, Decides, IsComplete};
-ghost use Rattle.wcrun.specs.Load.{IsLoaded};
+ghost use Rattle.wcrun.specs.Load.{supply_of, IsLoaded};
 ghost use Rattle.wcrun.specs.declared.command.Verb.TheVariants as verb;
 
 use crate::calls::{tell, want_memory};
@@ -29,8 +29,8 @@ fn loaded<C: Coder, K: Clock + Send + Drop, G: Gate + Send + Drop, R: Threads + 
     requires few { load.chunks ≤ 5000 }
     requires clocks { 34 ≤ length clocks.items }
     requires gates { 34 ≤ length gates.items }
-    ensures { IfOk result
-        (λ text. IsLoaded load (map C.coder coders.items) (string_bytes text)) }
+    ensures { let supply = supply_of (map C.coder coders.items) (map K.told clocks.items) in
+        IfOk result (λ text. IsLoaded load supply (string_bytes text)) }
 {
     loads_lack_nothing();
     let script = load_script(alloc, load.start, load.chunks)?;
@@ -58,7 +58,8 @@ pub(crate) fn run_load<
     requires few { load.chunks ≤ 5000 }
     requires clocks { 34 ≤ length clocks.items }
     requires gates { 34 ≤ length gates.items }
-    ensures headline { (r : Reading) → verb_in r.command ≡ Some (verb.Load load) → Headline r (map C.coder coders.items)
+    ensures headline { (r : Reading) → verb_in r.command ≡ Some (verb.Load load) → Headline r
+        (supply_of (map C.coder coders.items) (map K.told clocks.items))
         (writing (S.told sink.old) (S.told sink.new) (S.faults sink.old) (S.faults sink.new) result) }
     ensures decided { (r : Reading) → verb_in r.command ≡ Some (verb.Load load) → Decides r
         (writing (S.told sink.old) (S.told sink.new) (S.faults sink.old) (S.faults sink.new) result) }

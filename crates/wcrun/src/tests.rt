@@ -122,9 +122,9 @@ struct Ticks {
 }
 
 impl Clock for Ticks {
-    ghost use Rattle.std.specs.Prelude.{None};
+    ghost use Rattle.work_moments.specs.Moments.{silent};
 
-    ghost told = { λ _. None };
+    ghost told = { λ _. silent };
 
     fn now(&mut self) -> u64 {
         self.last = self.last.wrapping_add(1);
