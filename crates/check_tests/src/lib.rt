@@ -1,0 +1,5 @@
+//! Tests of verdicts on reports.
+#![tactic(auto)]
+
+#[cfg(test)]
+mod check_tests;

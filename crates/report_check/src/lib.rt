@@ -1,0 +1,12 @@
+//! Whether bytes are the report of a run of a script that is legal, fits the script and follows its order; or the number of
+//! the line at fault.
+#![tactic(auto)]
+
+mod checking;
+mod ends;
+mod page;
+mod part;
+mod verdict;
+
+pub use checking::check;
+pub use verdict::Verdict;
