@@ -1,8 +1,12 @@
 //! Measures copies of audio data of two channels: `copy_speed FROM TO FRAMES ROUNDS` copies so many frames
 //! from one format to another, plane after plane where it is planar, and prints how many bytes were
-//! written. With no round it only makes the data.
+//! written. With no round it only makes the data. `copy_speed adopt BYTES ROUNDS` makes audio data over
+//! one resource of so many bytes, and `copy_speed new BYTES ROUNDS` with a copy of them.
 #![tactic(auto)]
 
+mod adopting;
+
+use adopting::{adopt_rounds, new_rounds};
 use std::alloc::Global;
 use std::process::ExitCode;
 use std::rt::Env;
@@ -103,8 +107,21 @@ fn words(rt: &(impl Env + Alloc<A = Global>)) -> io::Result<Vec<String>> {
     Ok(words)
 }
 
+fn measure_data(alloc: Global, kind: &str, size: u32, rounds: u32) -> Option<u64> {
+    match kind {
+        "adopt" => adopt_rounds(alloc, size, rounds).ok(),
+        "new" => new_rounds(alloc, size, rounds).ok(),
+        _ => None,
+    }
+}
+
 fn measure(alloc: Global, words: &[String]) -> Option<u64> {
     match words {
+        [kind, size, rounds] => {
+            let size: u32 = size.as_str().parse().ok()?;
+            let rounds: u32 = rounds.as_str().parse().ok()?;
+            measure_data(alloc, kind.as_str(), size, rounds)
+        }
         [from, to, frames, rounds] => {
             let from = format_of(from.as_str())?;
             let to = copy_format_of(to.as_str())?;

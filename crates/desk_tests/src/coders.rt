@@ -1,5 +1,5 @@
 // Coders and gates that wait for one another, and a clock.
-ghost use Rattle.std.specs.Prelude.{List, Option, None, ℕ};
+ghost use Rattle.work_moments.specs.Moments.{silent};
 
 use codec_definitions::Unit;
 use codec_desk::{Clock, Gate};
@@ -125,7 +125,7 @@ pub struct CountingClock {
 }
 
 impl Clock for CountingClock {
-    ghost told = { λ _. None };
+    ghost told = { λ _. silent };
 
     fn now(&mut self) -> u64 {
         self.asked = self.asked.saturating_add(1);

@@ -108,8 +108,8 @@ fn opening() -> Opening
     }
 }
 
-// So many decoders.
-fn openings(alloc: Global, count: usize) -> Result<Vec<Opening>, AllocError>
+/// So many decoders.
+pub fn openings(alloc: Global, count: usize) -> Result<Vec<Opening>, AllocError>
     ensures may { IfOk result (λ v. MayOpen v.items) }
     ensures many { IfOk result (λ v. length v.items ≡ count) }
 {

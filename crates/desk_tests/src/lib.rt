@@ -4,4 +4,7 @@
 mod coders;
 mod desks;
 #[cfg(test)]
+mod reclaim_tests;
+mod reclaims;
+#[cfg(test)]
 mod thread_tests;
