@@ -29,7 +29,8 @@ def is_decoder(kind):
 
 
 def coder_id(kind, config):
-    """The id of the coder that a config asks for, or None."""
+    """The id of the coder that a config asks for, or None. The kind is the config's own, if it has one."""
+    kind = kind if config is None else config["kind"]
     if config is None or config["codec"] not in (SOUND if kind.startswith("audio") else definitions.PICTURES):
         return None
     return ROLES[kind] + ":" + config["codec"]
@@ -38,6 +39,7 @@ def coder_id(kind, config):
 def is_valid(kind, config):
     if config is None or not config["codec"].strip("\t\n\f\r "):
         return False
+    kind = config["kind"]
     if kind.startswith("audio"):
         if config["rate"] == 0 or config["channels"] == 0:
             return False
@@ -51,6 +53,7 @@ def is_valid(kind, config):
 def is_supported(kind, config):
     if not is_valid(kind, config) or coder_id(kind, config) is None:
         return False
+    kind = config["kind"]
     if kind.startswith("video"):
         return config["width"] is not None and config["width"] <= 16384 and config["height"] <= 16384
     if config["codec"] != "flac":
@@ -193,10 +196,13 @@ class Codec:
         if kind == "configure":
             if not is_supported(self.kind, what):
                 raise definitions.Refused
-            self.config, self.coder = what, definitions.coder_of(self.kind, what)
+            self.config, self.coder = what, definitions.coder_of(what["kind"], what)
             return []
         if kind == "flush":
             return self.coder.drain()
+        own = "chunk" if is_decoder(self.config["kind"]) else self.config["kind"].split("-")[0]
+        if own != ("chunk" if what[0] == "chunk" else what[1][0]):
+            raise definitions.Refused
         return self.coder.push(what[1])
 
     def outcome_of(self, outcome, item):
@@ -253,7 +259,7 @@ class Codec:
         shown = []
         for unit in units:
             carried = None
-            if self.kind == "audio-encoder" and config is not None:
+            if self.kind == "audio-encoder" and config is not None and config["kind"] == self.kind:
                 own = output_config(config)
                 if own != self.active:
                     carried, self.active = own, own

@@ -3,13 +3,13 @@
 `verdict(script, text)` gives None where the text is the report of a legal run that fits the script, and else the number of the
 line at fault, with a word on why. The first that applies: the first line that has not its form; the first line whose entry has
 no arguments or does not follow, or that differs from the report of what was read; the first line, codec by codec, of an entry
-that is not legal or of an output that is not the definition's; the first entry of the pool, and of the registry, that is not
-legal; the last line.
+that is not lawful or of an output that is not the definition's; the first entry of the pool, and of the registry, that is not
+legal; the last line. An entry of a codec is lawful where it is legal and, if it ends an item, suits the box that the item lacked.
 """
 import re
 
 import codec_definitions as definitions
-from codec_history import Codec, Illegal, coder_id, is_supported
+from codec_history import ROLES, Codec, Illegal, coder_id, is_supported
 from run_model import Held, Pool, Replay, Run, entry_lines, local_answer, report_lines
 
 NUMBER = r"(0|[1-9][0-9]*)"
@@ -70,6 +70,7 @@ class Reading:
 
     def __init__(self, script, text):
         self.script, self.run = script, Run(script)
+        self.opened = []                             # the kind and the saturation of each codec, by its line
         self.lines = text.split("\n")
         if self.lines[-1] == "":
             self.lines.pop()
@@ -127,8 +128,12 @@ class Reading:
             while self.at < len(self.lines) and self.numbered(len(self.run.results[c])) is not None:
                 self.run.results[c].append(self.result(self.numbered(len(self.run.results[c]))))
                 self.at += 1
-        for k, (name, kind, saturation) in enumerate(self.script.codecs):
-            self.want("codec %s %s %d" % (name, kind, saturation))
+        for k, (name, _, _) in enumerate(self.script.codecs):
+            found = re.fullmatch("codec %s (%s) %s" % (name, "|".join(ROLES), NUMBER), self.line())
+            if not found or int(found.group(2)) >= 2**32:
+                self.bad("the line of the codec is wanted")
+            self.opened.append((found.group(1), int(found.group(2))))
+            self.at += 1
             self.codec_lines(k)
         self.want("pool")
         while self.numbered(len(self.run.pool)) is not None:
@@ -214,7 +219,7 @@ class Reading:
 
     def outputs(self, k):
         """The outputs that a codec's lines show, in order, each with the config behind it."""
-        kind, out = self.script.codecs[k][1], []
+        kind, out = self.opened[k][0], []
         wanted = {"audio-decoder": "audio", "video-decoder": "video"}.get(kind, "chunk")
         lines = self.events[k]
         for i, (at, name, parts) in enumerate(lines):
@@ -245,6 +250,7 @@ class Reading:
             if entry[0][0] == "caller":
                 own[entry[0][1]].setdefault(entry[0][2], []).append(entry)
         pools, values = [_OwnPool(it, wanted) for it, wanted in zip(own, self.wanted_pool)], [{} for _ in own]
+        self.values = values
         done, waits_no_more = [0] * len(own), False
         # A caller waits at a receive until the post that it names was read.
         while True:
@@ -269,9 +275,8 @@ class Reading:
             held = values.get(bound["data"])
             self.given[c][j] = None if held is None else ("gone",) if held.pair is None else ("held", held.unit, held.pair)
         elif do == "take":
-            k = self.script.codec_numbers[step["on"]]
-            if found[0] == "unit" and found[1] == k and found[3] < len(self.shown[k]):
-                unit = self.shown[k][found[3]][1]
+            if found[0] == "unit" and found[3] < len(self.shown[found[1]]):
+                unit = self.shown[found[1]][found[3]][1]
                 values[j] = unit[1:5] if unit[0] == "chunk" else Held(unit, pool.make(("caller", c, j)))
         elif do == "post":
             held = values.get(bound["data"])
@@ -293,34 +298,45 @@ class Reading:
     def argument(self, k, place, name, parts, codec):
         c, j = self.script.caller_numbers[parts[0]], int(parts[1])
         steps = self.script.callers[c][1]
-        if j >= len(self.run.results[c]) or j >= len(steps):
+        if j >= len(steps):
             return None
         step = steps[j]
-        if step["do"] != (name if name != "call" else parts[2]) or step.get("on") != self.script.codecs[k][0]:
+        if step["do"] != (name if name != "call" else parts[2]):
             return None
         who, do = (c, j), step["do"]
         if do == "configure":
-            return ("call", who, do, self.script.config(k, step))
+            return ("call", who, do, self.script.config(step))
         if do == "take":
             return ("call", who, do, int(parts[2]))
         if do == "ground":
             return ("call", who, do, step["to"]) if parts[2] == step["to"] else None
         if do in ("flush", "reset", "close"):
             return ("call", who, do, None)
-        given = self.given[c].get(j)
-        if given is None:
-            return None
         if do == "decode":
-            return ("call", who, do, given)
-        return self.encode(k, place, who, given, codec)
+            chunk = self.chunk(c, self.script.bound[c][j]["chunk"])
+            return None if chunk is None else ("call", who, do, chunk)
+        return self.encode(k, place, who, self.script.bound[c][j]["data"], codec)
 
-    def encode(self, k, place, who, given, codec):
-        if given[0] == "gone":
+    def chunk(self, c, i):
+        """The chunk that the variable of a step has: what the step makes, or the output that it took."""
+        if self.script.callers[c][1][i]["do"] == "chunk" and i not in self.values[c]:
+            local_answer(self.script, c, i, self.values[c], None, ("caller", c, i))
+        found = self.values[c].get(i)
+        return found if isinstance(found, tuple) else None
+
+    def encode(self, k, place, who, i, codec):
+        """An encode by its caller's results: those before it say whether its medium is there, and whether it is detached."""
+        (c, j), results, steps = who, self.run.results[who[0]], self.script.callers[who[0]][1]
+        if i >= len(results) or not (results[i][0] == "unit" or results[i] == ("local", None)):
+            return None
+        if any(steps[n]["do"] in ("transfer", "close-data", "post") and self.script.bound[c][n].get("of", self.script.bound[c][n].get("data")) == i
+               and results[n] == ("local", None) for n in range(min(j, len(results)))):
             return ("call", who, "encode", ("gone",))
         if codec.phase != "configured":
             return ("call", who, "encode", ("kept",))
+        held = self.values[c].get(i)
         pair = next((it[2:4] for it in self.run.pool if it[0] == ("codec", k, place) and it[1] == "clone"), None)
-        return None if pair is None else ("call", who, "encode", ("cloned", given[1]) + tuple(pair))
+        return None if pair is None or not isinstance(held, Held) else ("call", who, "encode", ("cloned", held.unit) + tuple(pair))
 
     def entry(self, k, place, name, parts, codec):
         if name in ("call", "take", "ground"):
@@ -334,8 +350,8 @@ class Reading:
 
     def entries(self):
         """Each entry with its arguments follows those before it, and its lines are those of what it shows."""
-        for k, (_, kind, saturation) in enumerate(self.script.codecs):
-            codec, shown_so_far = Codec(kind, saturation, follows=True), 0
+        for k in range(len(self.script.codecs)):
+            codec, shown_so_far = Codec(*self.opened[k], follows=True), 0
             for place, (at, name, parts) in enumerate(self.told[k]):
                 entry = self.entry(k, place, name, parts, codec)
                 if entry is None:
@@ -397,12 +413,26 @@ class _OwnPool:
 
 # ---- legality
 
+def lacking(kind, given, item):
+    """The coder of which an item needs a box that its codec has not, or None. `given` is the last config of this epoch."""
+    if item[0] != "configure" or not is_supported(kind, item[1]) or coder_id(kind, item[1]) == coder_id(kind, given):
+        return None
+    return coder_id(kind, item[1])
+
+
+def box_allows(script, lack, outcome):
+    """Whether an item that lacked this ends so: none is refused a box that it does not lack, or works without a coder."""
+    if lack is None:
+        return outcome[0] != "no-slot"
+    return outcome[0] in ("no-slot", "no-memory") or script.made(lack) > 0
+
+
 def check_legal(reading):
     """Each codec's history is legal and shows what its definitions give. It gives the codecs with what is known by places."""
     known = []
     for k, (_, kind, saturation) in enumerate(reading.script.codecs):
         codec, phases, sizes, ends, count = Codec(kind, saturation), ["unconfigured"], [0], {}, 0
-        lets, items = [], []
+        lets, items, given, lack = [], [], None, None
         for place, (entry, read, _) in enumerate(reading.run.entries[k]):
             at = reading.told[k][place][0]
             running, epoch = codec.running, codec.epoch
@@ -411,6 +441,12 @@ def check_legal(reading):
                 shown = codec.step(entry)
             except Illegal:
                 raise AtFault(at + 1, "the entry is not legal there")
+            if entry[0] == "start":
+                lack = lacking(kind, given, item[1])
+                given = item[1][1] if item[1][0] == "configure" else given
+            if entry[0] == "done" and not box_allows(reading.script, lack, entry[4]):
+                raise AtFault(at + 1, "the end does not suit the item's box")
+            given = given if codec.epoch == epoch else None
             for i, (event, other) in enumerate(zip(shown, read)):
                 if event[0] == "output" and event != other:
                     line = reading.shown[k][count][0]
@@ -648,6 +684,7 @@ def verdict(script, text):
         pool = check_pool(reading)
         check_slots(reading)
         try:
+            need(reading.opened == [it[1:] for it in script.codecs], "a codec has another kind or saturation")
             need(reading.run.held == pool.held(), "another number of media is held")
             check_calls(reading, known)
             check_ports(reading)

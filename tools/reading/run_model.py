@@ -54,7 +54,7 @@ def text(obj, name):
 def config_of(kind, obj):
     """The config that a step's object spells, or None where it breaks a rule of WebIDL."""
     try:
-        config = {"codec": text(obj, "codec")}
+        config = {"kind": kind, "codec": text(obj, "codec")}
         if kind.startswith("audio"):
             config.update(rate=number(obj, "sampleRate", U32), channels=number(obj, "numberOfChannels", U32))
             if kind == "audio-decoder":
@@ -204,8 +204,8 @@ class Script:
         """The chunk of a `chunk` step; a fault where its init breaks a rule."""
         return self.chunks(step["file"])[step["index"]] if "file" in step else chunk_of(step["init"], buffers)
 
-    def config(self, k, step):
-        return config_of(self.codecs[k][1], step["config"])
+    def config(self, step):
+        return config_of(self.codecs[self.codec_numbers[step["on"]]][1], step["config"])
 
 
 def chunks_of_file(data):
@@ -474,7 +474,7 @@ class Replay:
         do, who = step["do"], ("caller", c, j)
         k = self.script.codec_numbers.get(step.get("on"))
         if do == "configure":
-            return self.call(c, j, k, do, self.script.config(k, step))
+            return self.call(c, j, k, do, self.script.config(step))
         if do in ("flush", "reset", "close"):
             return self.call(c, j, k, do, None)
         if do == "ground":
