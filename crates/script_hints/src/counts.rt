@@ -78,7 +78,26 @@ pub fn turns(notes: &mut Notes<'_>, script: &Script<'_>) -> Result<(), AllocErro
     Ok(())
 }
 
-// The line on an array with too many items.
+/// The line on an array with too many items.
+pub fn tell_items(
+    notes: &mut Notes<'_>,
+    script: &Script<'_>,
+    place: Place,
+    at: usize,
+    member: &str,
+    most: usize,
+) -> Result<(), AllocError> {
+    begin_at(notes, script, place, at)?;
+    notes.member(member)?;
+    notes.say(" has ")?;
+    notes.number(count_items(script.text, at))?;
+    notes.say(" items; at most ")?;
+    notes.number(most)?;
+    notes.say(" are wanted")?;
+    notes.end()
+}
+
+// The line on an array at the top with too many items.
 fn tell_many(
     notes: &mut Notes<'_>,
     script: &Script<'_>,
@@ -86,17 +105,10 @@ fn tell_many(
     member: &str,
     what: Counted,
 ) -> Result<(), AllocError> {
-    let Some(at) = array else {
-        return Ok(());
-    };
-    begin_at(notes, script, Place::Top, at)?;
-    notes.member(member)?;
-    notes.say(" has ")?;
-    notes.number(count_items(script.text, at))?;
-    notes.say(" items; at most ")?;
-    notes.number(limit_of(what))?;
-    notes.say(" are wanted")?;
-    notes.end()
+    match array {
+        Some(at) => tell_items(notes, script, Place::Top, at, member, limit_of(what)),
+        None => Ok(()),
+    }
 }
 
 // How many steps the callers have.
@@ -149,6 +161,7 @@ pub fn too_many(
         Counted::Script => tell_bytes(notes, "a script has at most ", what),
         Counted::Chunk => tell_bytes(notes, "a chunk, or inline data, has at most ", what),
         Counted::File => tell_bytes(notes, "a chunk file has at most ", what),
+        Counted::Report => tell_bytes(notes, "a report has at most ", what),
         Counted::Media => tell_bytes(
             notes,
             "all chunks of its chunk files and all inline data have at most ",

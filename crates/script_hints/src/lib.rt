@@ -83,6 +83,18 @@ fn at_item(
     }
 }
 
+// What is wrong at the top.
+fn at_top(notes: &mut Notes<'_>, script: &Script<'_>, wrong: Wrong) -> Result<(), AllocError> {
+    if wrong == Wrong::Twice {
+        return names::twice_in_ports(notes, script);
+    }
+    if shapes::top(notes, script)? {
+        Ok(())
+    } else {
+        counts::turns(notes, script)
+    }
+}
+
 // What is wrong at a place.
 fn at_place(
     notes: &mut Notes<'_>,
@@ -91,13 +103,7 @@ fn at_place(
     wrong: Wrong,
 ) -> Result<(), AllocError> {
     match place {
-        Place::Top => {
-            if shapes::top(notes, script)? {
-                Ok(())
-            } else {
-                counts::turns(notes, script)
-            }
-        }
+        Place::Top => at_top(notes, script, wrong),
         Place::Codec(i) => {
             let at = script.codec(i as usize);
             at_head(notes, script, place, at, Form::Codec, wrong)

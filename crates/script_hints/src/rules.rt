@@ -9,14 +9,22 @@ pub enum Wanted {
     Codec,
     Decoder,
     Encoder,
-    /// A variable: a chunk, audio data, a frame, one of these two, one of these three, a promise.
+    /// The name of a port.
+    Port,
+    /// A variable: a chunk, audio data, a frame, one of these two, one of these three, a promise, a buffer, audio data, a frame or
+    /// a buffer.
     Chunk,
     Audio,
     Frame,
     Medium,
     Copied,
     Promise,
+    Buffer,
+    Sized,
+    /// Hex text, or an object that names a buffer.
+    Data,
     Kind,
+    PortKind,
     Ground,
     Saturation,
     Size,
@@ -81,6 +89,13 @@ pub enum Form {
     CloseData,
     Copy,
     Size,
+    Buffer,
+    Post,
+    PostAudio,
+    PostFrame,
+    Receive,
+    Port,
+    Data,
     Config,
     Flac,
     Init,
@@ -89,10 +104,16 @@ pub enum Form {
     Plane,
 }
 
-const SCRIPT: [Rule; 3] = [
+const SCRIPT: [Rule; 4] = [
     Rule("codecs", Wanted::Array, Need::Must),
     Rule("callers", Wanted::Array, Need::Must),
     Rule("order", Wanted::Array, Need::Must),
+    Rule("ports", Wanted::Array, Need::May),
+];
+
+const PORT: [Rule; 2] = [
+    Rule("name", Wanted::Fresh, Need::Must),
+    Rule("of", Wanted::PortKind, Need::Must),
 ];
 
 const CODEC: [Rule; 3] = [
@@ -135,11 +156,19 @@ const FLAC: [Rule; 3] = [
     Rule("bitsPerSample", Wanted::Integer, Need::May),
 ];
 
-const INIT: [Rule; 10] = [
+const DATA: [Rule; 1] = [Rule("buffer", Wanted::Buffer, Need::Must)];
+
+/// An item of a transfer list, and how many a list may have.
+pub const TRANSFER: Rule = Rule("transfer", Wanted::Buffer, Need::Must);
+
+pub const MOST_TRANSFER: usize = 16;
+
+const INIT: [Rule; 11] = [
     Rule("type", Wanted::Text, Need::May),
     Rule("timestamp", Wanted::Integer, Need::May),
     Rule("duration", Wanted::Integer, Need::May),
-    Rule("data", Wanted::Hex, Need::May),
+    Rule("data", Wanted::Data, Need::May),
+    Rule("transfer", Wanted::Array, Need::May),
     Rule("format", Wanted::Text, Need::May),
     Rule("sampleRate", Wanted::Integer, Need::May),
     Rule("numberOfFrames", Wanted::Integer, Need::May),
@@ -233,8 +262,33 @@ const COPY: [Rule; 3] = [
     Rule("options", Wanted::Object, Need::May),
 ];
 
+const BUFFER: [Rule; 2] = [
+    Rule("as", Wanted::Fresh, Need::Must),
+    Rule("data", Wanted::Hex, Need::Must),
+];
+
+const POST: [Rule; 2] = [
+    Rule("to", Wanted::Port, Need::Must),
+    Rule("data", Wanted::Medium, Need::Must),
+];
+
+const POST_AUDIO: [Rule; 2] = [
+    Rule("to", Wanted::Port, Need::Must),
+    Rule("data", Wanted::Audio, Need::Must),
+];
+
+const POST_FRAME: [Rule; 2] = [
+    Rule("to", Wanted::Port, Need::Must),
+    Rule("data", Wanted::Frame, Need::Must),
+];
+
+const RECEIVE: [Rule; 2] = [
+    Rule("from", Wanted::Port, Need::Must),
+    Rule("as", Wanted::Fresh, Need::Must),
+];
+
 const SIZE: [Rule; 2] = [
-    Rule("of", Wanted::Medium, Need::Must),
+    Rule("of", Wanted::Sized, Need::Must),
     Rule("options", Wanted::Object, Need::May),
 ];
 
@@ -266,13 +320,20 @@ pub fn rules_of(form: Form) -> &'static [Rule] {
         Form::CloseData => &CLOSE_DATA,
         Form::Copy => &COPY,
         Form::Size => &SIZE,
+        Form::Buffer => &BUFFER,
+        Form::Post => &POST,
+        Form::PostAudio => &POST_AUDIO,
+        Form::PostFrame => &POST_FRAME,
+        Form::Receive => &RECEIVE,
+        Form::Port => &PORT,
+        Form::Data => &DATA,
     }
 }
 
 /// The words of `do`, with commas.
 pub const STEP_WORDS: &str =
     "configure, chunk, decode, audio, frame, encode, flush, poll, await, reset, close, take, \
-     state, ground, clone, transfer, close-data, copy, size";
+     state, ground, clone, transfer, close-data, copy, size, buffer, post, receive";
 
 /// What the step of this word has.
 pub fn form_of_word(word: &[u8]) -> Option<Form> {
@@ -291,6 +352,9 @@ pub fn form_of_word(word: &[u8]) -> Option<Form> {
         b"close-data" => Some(Form::CloseData),
         b"copy" => Some(Form::Copy),
         b"size" => Some(Form::Size),
+        b"buffer" => Some(Form::Buffer),
+        b"post" => Some(Form::Post),
+        b"receive" => Some(Form::Receive),
         _ => None,
     }
 }
@@ -308,6 +372,13 @@ pub fn words_of(wanted: Wanted) -> &'static str {
         Wanted::Medium => "the name of audio data or of a frame",
         Wanted::Copied => "the name of audio data, of a frame or of a chunk",
         Wanted::Promise => "the name of a promise",
+        Wanted::Buffer => "the name of a buffer",
+        Wanted::Sized => "the name of audio data, of a frame or of a buffer",
+        Wanted::Port => "the name of a port",
+        Wanted::PortKind => "audio or frame",
+        Wanted::Data => {
+            "a text of pairs of hexadecimal digits, or an object that names a buffer by \"buffer\""
+        }
         Wanted::Kind => "audio-decoder, audio-encoder, video-decoder or video-encoder",
         Wanted::Ground => "foreground, background or background-encoding",
         Wanted::Saturation => "a number from 1 to 64",

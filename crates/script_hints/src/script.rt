@@ -10,6 +10,7 @@ pub enum Held {
     Audio,
     Frame,
     Promise,
+    Buffer,
     Unknown,
 }
 
@@ -21,6 +22,7 @@ pub struct Script<'t> {
     codecs: Option<usize>,
     callers: Option<usize>,
     order: Option<usize>,
+    ports: Option<usize>,
 }
 
 // The longest chain of clones and transfers that is followed.
@@ -35,10 +37,11 @@ impl<'t> Script<'t> {
             codecs: find_member(text, top, b"codecs"),
             callers: find_member(text, top, b"callers"),
             order: find_member(text, top, b"order"),
+            ports: find_member(text, top, b"ports"),
         }
     }
 
-    /// The array of codecs, of callers, and the order.
+    /// The array of codecs, of callers, of ports, and the order.
     pub fn codecs(&self) -> Option<usize> {
         self.codecs
     }
@@ -49,6 +52,10 @@ impl<'t> Script<'t> {
 
     pub fn order(&self) -> Option<usize> {
         self.order
+    }
+
+    pub fn ports(&self) -> Option<usize> {
+        self.ports
     }
 
     /// Codec, caller or item of the order of this number.
@@ -107,6 +114,29 @@ impl<'t> Script<'t> {
         self.find(self.callers, b"name", name, most)
     }
 
+    // What the port that begins here takes.
+    fn taken_by(&self, port: usize) -> Option<Held> {
+        match self.text_of(port, b"of") {
+            Some(b"audio") => Some(Held::Audio),
+            Some(b"frame") => Some(Held::Frame),
+            _ => None,
+        }
+    }
+
+    /// The port of this name; what takes neither audio data nor frames is none.
+    pub fn find_port(&self, name: &[u8]) -> Option<(usize, usize)> {
+        let mut at = inside(self.ports?);
+        for n in 0..self.text.len() {
+            let item = next_item(self.text, at)?;
+            let is_named = self.text_of(item.value, b"name") == Some(name);
+            if is_named && self.taken_by(item.value).is_some() {
+                return Some((n, item.value));
+            }
+            at = item.next;
+        }
+        None
+    }
+
     /// The step that names this variable, among the first ones of caller `i`.
     pub fn find_variable(&self, i: usize, name: &[u8], most: usize) -> Option<(usize, usize)> {
         self.find(self.steps(i), b"as", name, most)
@@ -128,6 +158,14 @@ impl<'t> Script<'t> {
         }
     }
 
+    // What a receive from the port of this name gives.
+    fn received_from(&self, name: &[u8]) -> Held {
+        match self.find_port(name) {
+            Some((_, port)) => self.taken_by(port).unwrap_or(Held::Unknown),
+            None => Held::Unknown,
+        }
+    }
+
     // What a step puts into its variable; `None` for what another variable holds.
     fn put_by(&self, step: usize) -> Option<Held> {
         match self.text_of(step, b"do") {
@@ -137,6 +175,11 @@ impl<'t> Script<'t> {
             Some(b"flush") => Some(Held::Promise),
             Some(b"take") => match self.text_of(step, b"on") {
                 Some(codec) => Some(self.taken_from(codec)),
+                None => Some(Held::Unknown),
+            },
+            Some(b"buffer") => Some(Held::Buffer),
+            Some(b"receive") => match self.text_of(step, b"from") {
+                Some(port) => Some(self.received_from(port)),
                 None => Some(Held::Unknown),
             },
             Some(b"clone" | b"transfer") => None,
@@ -176,10 +219,23 @@ impl<'t> Script<'t> {
         }
     }
 
+    // What the post that begins here has, by its port.
+    fn post_form(&self, step: usize) -> Form {
+        let Some(port) = self.text_of(step, b"to") else {
+            return Form::Post;
+        };
+        match self.received_from(port) {
+            Held::Audio => Form::PostAudio,
+            Held::Frame => Form::PostFrame,
+            _ => Form::Post,
+        }
+    }
+
     /// What the step that begins here has.
     pub fn form_of(&self, step: usize) -> Option<Form> {
         match form_of_word(self.text_of(step, b"do")?)? {
             Form::Encode => Some(self.encode_form(step)),
+            Form::Post => Some(self.post_form(step)),
             form => Some(form),
         }
     }

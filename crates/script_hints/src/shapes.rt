@@ -1,9 +1,10 @@
 // What is wrong with the shape of one place.
 
+use crate::counts::tell_items;
 use crate::notes::Notes;
 use crate::places::{begin_at, say_step_word};
-use crate::rules::{Form, Rule, STEP_WORDS, Wanted, rules_of, words_of};
-use crate::scan::{byte_at, find_member, inside, next_start, past_value, string_at};
+use crate::rules::{Form, MOST_TRANSFER, Rule, STEP_WORDS, TRANSFER, Wanted, rules_of, words_of};
+use crate::scan::{byte_at, count_items, find_member, inside, next_start, past_value, string_at};
 use crate::script::Script;
 use crate::values::{Owner, is_name, may_stand};
 use script_types::Place;
@@ -54,8 +55,10 @@ fn tell_met(
         } else if !matches!(
             rule.wanted(),
             Wanted::Kind
+                | Wanted::PortKind
                 | Wanted::Ground
                 | Wanted::Hex
+                | Wanted::Data
                 | Wanted::Text
                 | Wanted::Object
                 | Wanted::Array
@@ -201,10 +204,57 @@ fn source(
     Ok(true)
 }
 
+// The data of an init, where it is an object that names a buffer.
+fn data(
+    notes: &mut Notes<'_>,
+    script: &Script<'_>,
+    owner: Owner,
+    place: Place,
+    init: usize,
+) -> Result<bool, AllocError> {
+    match find_member(script.text, init, b"data") {
+        Some(at) if byte_at(script.text, at) == b'{' => {
+            members_of(notes, script, owner, place, at, Form::Data)
+        }
+        _ => Ok(false),
+    }
+}
+
+// The transfer list of an init: too many names, or one that is no buffer's.
+fn transfer(
+    notes: &mut Notes<'_>,
+    script: &Script<'_>,
+    owner: Owner,
+    place: Place,
+    init: usize,
+) -> Result<bool, AllocError> {
+    let text = script.text;
+    let Some(list) = find_member(text, init, b"transfer") else {
+        return Ok(false);
+    };
+    if count_items(text, list) > MOST_TRANSFER {
+        tell_items(notes, script, place, list, "transfer", MOST_TRANSFER)?;
+        return Ok(true);
+    }
+    let mut at = inside(list);
+    for _ in 0..MOST_TRANSFER {
+        let Some(name) = next_start(text, at) else {
+            break;
+        };
+        if !may_stand(script, owner, name, Wanted::Buffer) {
+            tell_met(notes, script, owner, place, name, TRANSFER)?;
+            return Ok(true);
+        }
+        at = past_value(text, name);
+    }
+    Ok(false)
+}
+
 // What stands in the objects of a step.
 fn deeper(
     notes: &mut Notes<'_>,
     script: &Script<'_>,
+    owner: Owner,
     place: Place,
     step: usize,
     form: Form,
@@ -221,6 +271,12 @@ fn deeper(
     }
     if let Some(config) = find_member(text, step, b"config") {
         return within(notes, script, place, config, "flac", Form::Flac);
+    }
+    if let Some(init) = find_member(text, step, b"init") {
+        return Ok(
+            data(notes, script, owner, place, init)?
+                || transfer(notes, script, owner, place, init)?,
+        );
     }
     if let Some(options) = find_member(text, step, b"options") {
         return Ok(
@@ -270,8 +326,9 @@ pub fn step(
     let Some(form) = script.form_of(at) else {
         return tell_word(notes, script, place, at);
     };
-    if !members_of(notes, script, Owner::Step(i, j), place, at, form)? {
-        let _ = deeper(notes, script, place, at, form)?;
+    let owner = Owner::Step(i, j);
+    if !members_of(notes, script, owner, place, at, form)? {
+        let _ = deeper(notes, script, owner, place, at, form)?;
     }
     Ok(())
 }
@@ -340,18 +397,48 @@ pub fn item(
     notes.end()
 }
 
+// The most ports.
+const MOST_PORTS: usize = 64;
+
+// Too many ports, or the first of them that has no name, or is of no such kind.
+fn ports(notes: &mut Notes<'_>, script: &Script<'_>) -> Result<bool, AllocError> {
+    let Some(array) = script.ports() else {
+        return Ok(false);
+    };
+    if count_items(script.text, array) > MOST_PORTS {
+        tell_items(notes, script, Place::Top, array, "ports", MOST_PORTS)?;
+        return Ok(true);
+    }
+    let mut at = inside(array);
+    for _ in 0..script.text.len() {
+        let Some(port) = next_start(script.text, at) else {
+            break;
+        };
+        if byte_at(script.text, port) != b'{' {
+            tell_no_object(notes, script, Place::Top, port, "a port")?;
+            return Ok(true);
+        }
+        if members_of(notes, script, Owner::Other, Place::Top, port, Form::Port)? {
+            return Ok(true);
+        }
+        at = past_value(script.text, port);
+    }
+    Ok(false)
+}
+
 /// What is wrong at the top, where the callers stand in the order as often as they have steps.
 pub fn top(notes: &mut Notes<'_>, script: &Script<'_>) -> Result<bool, AllocError> {
     if byte_at(script.text, script.top) != b'{' {
         tell_no_object(notes, script, Place::Top, script.top, "the script")?;
         return Ok(true);
     }
-    members_of(
+    let whole = members_of(
         notes,
         script,
         Owner::Other,
         Place::Top,
         script.top,
         Form::Script,
-    )
+    )?;
+    Ok(whole || ports(notes, script)?)
 }

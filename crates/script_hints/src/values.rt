@@ -71,9 +71,16 @@ fn is_hex(text: &[u8]) -> bool {
 fn fits(held: Held, wanted: Wanted) -> bool {
     match held {
         Held::Chunk => matches!(wanted, Wanted::Chunk | Wanted::Copied),
-        Held::Audio => matches!(wanted, Wanted::Audio | Wanted::Medium | Wanted::Copied),
-        Held::Frame => matches!(wanted, Wanted::Frame | Wanted::Medium | Wanted::Copied),
+        Held::Audio => matches!(
+            wanted,
+            Wanted::Audio | Wanted::Medium | Wanted::Copied | Wanted::Sized
+        ),
+        Held::Frame => matches!(
+            wanted,
+            Wanted::Frame | Wanted::Medium | Wanted::Copied | Wanted::Sized
+        ),
         Held::Promise => wanted == Wanted::Promise,
+        Held::Buffer => matches!(wanted, Wanted::Buffer | Wanted::Sized),
         Held::Unknown => true,
     }
 }
@@ -102,7 +109,7 @@ fn is_right_name(script: &Script<'_>, owner: Owner, name: &[u8], wanted: Wanted)
         return false;
     }
     match wanted {
-        Wanted::Fresh | Wanted::Codec => true,
+        Wanted::Fresh | Wanted::Codec | Wanted::Port => true,
         Wanted::Decoder => is_codec(script, name, true),
         Wanted::Encoder => is_codec(script, name, false),
         _ => is_variable(script, owner, name, wanted),
@@ -125,7 +132,9 @@ pub fn may_stand(script: &Script<'_>, owner: Owner, at: usize, wanted: Wanted) -
         Wanted::Array => byte_at(text, at) == b'[',
         Wanted::Text => string.is_some(),
         Wanted::Hex => string.is_some_and(|it| is_hex(it)),
+        Wanted::Data => byte_at(text, at) == b'{' || string.is_some_and(|it| is_hex(it)),
         Wanted::Kind => string.is_some_and(|it| is_kind(it)),
+        Wanted::PortKind => string.is_some_and(|it| matches!(it, b"audio" | b"frame")),
         Wanted::Ground => string.is_some_and(|it| ground_named(it).is_some()),
         Wanted::Natural => natural_at(text, at).is_some(),
         Wanted::Integer => is_integer(text, at),

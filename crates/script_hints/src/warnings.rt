@@ -103,7 +103,7 @@ impl<'n, 't> Warner<'n, 't> {
         Ok(past_blanks(self.text, at).saturating_add(1))
     }
 
-    // Members of a config, or of options.
+    // Members of a config, of an init, or of options.
     fn parts(&mut self, object: usize, form: Form) -> Result<usize, AllocError> {
         if byte_at(self.text, object) != b'{' {
             return Ok(past_value(self.text, object));
@@ -117,6 +117,7 @@ impl<'n, 't> Warner<'n, 't> {
                 b"flac" => self.flat(name.value, Form::Flac)?,
                 b"rect" => self.flat(name.value, Form::Rect)?,
                 b"layout" => self.flat_items(name.value, Form::Plane)?,
+                b"data" if form == Form::Init => self.flat(name.value, Form::Data)?,
                 _ => {
                     self.look_at(name, form)?;
                     past_value(self.text, name.value)
@@ -142,7 +143,7 @@ impl<'n, 't> Warner<'n, 't> {
                 b"options" if is_known(form, b"options") => {
                     self.parts(name.value, Form::Options)?
                 }
-                b"init" if is_known(form, b"init") => self.flat(name.value, Form::Init)?,
+                b"init" if is_known(form, b"init") => self.parts(name.value, Form::Init)?,
                 member => {
                     if member != b"do".as_slice() && !is_known(form, member) {
                         self.tell(name.at, word)?;
@@ -217,6 +218,7 @@ impl<'n, 't> Warner<'n, 't> {
                 b"codecs" => self.flat_items(name.value, Form::Codec)?,
                 b"callers" => self.callers(name.value)?,
                 b"order" => self.flat_items(name.value, Form::Item)?,
+                b"ports" => self.flat_items(name.value, Form::Port)?,
                 _ => {
                     self.look_at(name, Form::Script)?;
                     past_value(self.text, name.value)

@@ -7,5 +7,8 @@ pub mod StepLaws
 mod NumberLaws
 mod PlaceLaws
 mod Positions
+mod PortTables
+mod BufferLaws
+mod UseLaws
 mod StepTables
 mod WithinLaws

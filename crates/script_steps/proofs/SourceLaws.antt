@@ -1,10 +1,13 @@
 -- What is made of an init holds no more than the inline data.
-use Rattle.std.proofs.Common.{◌≡◌, ◌≤◌, ℕ, codes, Bool, true, false, List, Option, option_and_then, Ok, IfOk, sym, subst, arith}
+use Rattle.std.proofs.Common.{◌≡◌, ◌≤◌, ℕ, codes, Bool, true, false, List, Option, Some, option_and_then, Ok, IfOk, sym, subst, arith}
 use Rattle.serde_json.specs.{Data.Data, Find.get}
 use Rattle.script_types.specs.Sound.{bytes_of_chunk, bytes_of_source, bytes_of_sound, bytes_of_picture}
 use Rattle.script_steps.specs.{declared.source.SourceWords.SourceWords, Words.byte_count, Steps.numbered}
-use Rattle.script_steps.specs.Members.{and_then, needed, word_of, required, u32_of, hex_of, object_in, text_in}
-use Rattle.script_steps.specs.Media.{data_value, data_of_init, data_of_step, timestamp_in, duration_in, content_in, key_of, chunk_with, chunk_of, sample_format_of, sound_with, sound_of, picture_format_of, picture_with, picture_of}
+use Rattle.script_steps.specs.Members.{and_then, needed, required, hex_of, object_in, text_in}
+use Rattle.wc_base.specs.declared.media.SoundShape.{SoundShape}
+use Rattle.wc_base.specs.declared.media.PictureShape.{PictureShape}
+use Rattle.script_types.specs.declared.steps.InitShape.{InitShape}
+use Rattle.script_steps.specs.Media.{data_value, data_of_init, data_of_step, content_in, chunk_shape_of, chunk_with, chunk_of, sound_shape_of, sound_with, sound_of, picture_shape_of, picture_with, picture_of}
 use Rattle.script_steps.specs.Sources.{has, index_in, source_by, source_of}
 use Rattle.script_steps.proofs.ReferenceLaws.{by_part, made}
 
@@ -18,22 +21,26 @@ of_content : {A : Type 0} → (bytes : A → ℕ) (d : Data) (make : Option (Lis
     → IfOk (and_then (content_in d) (λ c. Ok (make c))) (λ i. bytes i ≤ byte_count (data_of_init d))
 of_content bytes d make small = by_part (content_in d) _ _ (λ c e. subst (λ x. bytes (make c) ≤ byte_count x) (sym (content_is (get (codes "data") d) c e)) (small c))
 
+chunk_few : (shape : Option InitShape) (c : Option (List ℕ)) → bytes_of_chunk (chunk_with shape c) ≤ byte_count c
+chunk_few (Some (InitShape.Chunk key timestamp duration)) (Some c) = omega arith
+chunk_few _ _ = omega arith
+
 chunk_bytes : (d : Data) → IfOk (chunk_of d) (λ i. bytes_of_chunk i ≤ byte_count (data_of_init d))
-chunk_bytes d =
-    by_part (required (word_of key_of) (get (codes "type") d)) _ _ (λ key k. by_part (timestamp_in d) _ _ (λ timestamp t. by_part (duration_in d) _ _ (λ duration l.
-    of_content bytes_of_chunk d (chunk_with key timestamp duration) (λ c. grind arith))))
+chunk_bytes d = by_part (chunk_shape_of d) _ _ (λ shape s. of_content bytes_of_chunk d (chunk_with shape) (chunk_few shape))
+
+sound_few : (shape : Option SoundShape) (c : Option (List ℕ)) → bytes_of_sound (sound_with shape c) ≤ byte_count c
+sound_few (Some s) (Some c) = omega arith
+sound_few _ _ = omega arith
 
 pub sound_bytes : (d : Data) → IfOk (sound_of d) (λ i. bytes_of_sound i ≤ byte_count (data_of_init d))
-sound_bytes d =
-    by_part (required (word_of sample_format_of) (get (codes "format") d)) _ _ (λ format f. by_part (required u32_of (get (codes "sampleRate") d)) _ _ (λ rate r.
-    by_part (required u32_of (get (codes "numberOfFrames") d)) _ _ (λ frames n. by_part (required u32_of (get (codes "numberOfChannels") d)) _ _ (λ channels c. by_part (timestamp_in d) _ _ (λ timestamp t.
-    of_content bytes_of_sound d (sound_with format rate frames channels timestamp) (λ b. grind arith))))))
+sound_bytes d = by_part (sound_shape_of d) _ _ (λ shape s. of_content bytes_of_sound d (sound_with shape) (sound_few shape))
+
+picture_few : (shape : Option PictureShape) (c : Option (List ℕ)) → bytes_of_picture (picture_with shape c) ≤ byte_count c
+picture_few (Some s) (Some c) = omega arith
+picture_few _ _ = omega arith
 
 pub picture_bytes : (d : Data) → IfOk (picture_of d) (λ i. bytes_of_picture i ≤ byte_count (data_of_init d))
-picture_bytes d =
-    by_part (required (word_of picture_format_of) (get (codes "format") d)) _ _ (λ format f. by_part (required u32_of (get (codes "codedWidth") d)) _ _ (λ width w.
-    by_part (required u32_of (get (codes "codedHeight") d)) _ _ (λ height h. by_part (timestamp_in d) _ _ (λ timestamp t. by_part (duration_in d) _ _ (λ duration l.
-    of_content bytes_of_picture d (picture_with format width height timestamp duration) (λ c. grind arith))))))
+picture_bytes d = by_part (picture_shape_of d) _ _ (λ shape s. of_content bytes_of_picture d (picture_with shape) (picture_few shape))
 
 -- ---- the init of a step
 

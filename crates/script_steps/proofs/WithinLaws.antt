@@ -1,5 +1,5 @@
 -- What a step that was read holds is within its types.
-use Rattle.std.proofs.Common.{◌≡◌, ◌<◌, ◌^◌, ℕ, ℤ, pos, negsuc, codes, Bool, true, false, if◌then◌else◌, List, Option, Some, None, option_and_then, option_map, Result, Ok, Err, IfOk, refl, arith}
+use Rattle.std.proofs.Common.{◌≡◌, ◌<◌, ◌^◌, ℕ, ℤ, pos, negsuc, codes, Bool, true, false, if◌then◌else◌, List, [], Option, Some, None, option_and_then, option_map, Result, Ok, Err, IfOk, refl, subst, arith}
 use Rattle.std.specs.Option.{IfSome}
 use Rattle.std.specs.Int.Signed.{mag}
 use Rattle.std.proofs.lemmas.Result.{IfOk-at_ok}
@@ -10,22 +10,27 @@ use Rattle.serde_json.specs.Data.{Data}
 use Rattle.serde_json.specs.Find.{get, as_str}
 use Rattle.wc_base.specs.declared.media.SampleFormat.{SampleFormat}
 use Rattle.wc_base.specs.declared.media.PictureFormat.{PictureFormat}
+use Rattle.wc_base.specs.declared.media.SoundShape.{SoundShape}
+use Rattle.wc_base.specs.declared.media.PictureShape.{PictureShape}
 use Rattle.wc_config.specs.declared.kind.Kind.{Kind}
 use Rattle.chunk_files.specs.declared.fault.Stop.{Stop}
-use Rattle.script_types.specs.declared.{fault.Wrong.Wrong, script.CodecItem.CodecItem, steps.Step.Step, steps.MediaStep.MediaStep}
+use Rattle.script_types.specs.declared.{fault.Wrong.Wrong, script.CodecItem.CodecItem, script.PortItem.PortItem, steps.Step.Step, steps.MediaStep.MediaStep, steps.Variable.Variable, steps.VariableKind.VariableKind, steps.InitShape.InitShape, steps.InitData.InitData, steps.BufferedInit.BufferedInit}
 use Rattle.script_types.specs.Names.{codec_named, decodes}
-use Rattle.script_steps.specs.Members.{and_then, needed as there, known, name_in, object_in, text_in, within, is_u32, is_integer, natural_of, signed_of, is_timestamp, is_duration, u32_of, timestamp_of, duration_of, decoded, required, defaulted, optional, hex_if_there, word_of}
+use Rattle.script_steps.specs.Members.{and_then, needed as there, known, name_in, object_in, text_in, within, is_u32, is_integer, natural_of, signed_of, is_timestamp, is_duration, u32_of, timestamp_of, duration_of, decoded, hex_of, required, defaulted, optional, hex_if_there, word_of}
 use Rattle.script_steps.specs.ConfigRead.{codec_in, rate_in, channels_in, audio_decoder_with, flac_in, flac_number, audio_encoder_with, pixels_in, video_decoder_with, size_in as pixel_size_in, key_interval_in, video_encoder_with, config_of}
-use Rattle.script_steps.specs.Media.{data_value, timestamp_in, duration_in, content_in, key_of, chunk_with, chunk_of, sample_format_of, sound_with, sound_of, picture_format_of, picture_with, picture_of}
+use Rattle.script_steps.specs.Media.{data_of_init, data_value, timestamp_in, duration_in, content_in, key_of, chunk_shape_with, chunk_shape_of, chunk_with, chunk_of, sample_format_of, sound_shape_with, sound_shape_of, sound_with, sound_of, picture_format_of, picture_shape_with, picture_shape_of, picture_with, picture_of, init_shape_of}
+use Rattle.script_steps.specs.Buffers.{has_buffers, buffer_if, data_by, data_words, transfer_words, known_buffer, known_data, known_buffers, buffered_with, buffered_of}
+use Rattle.script_steps.specs.Ports.{port_named_in, posted_by}
 use Rattle.script_steps.specs.Sources.{has, index_in, source_by, source_of}
 use Rattle.script_steps.specs.{declared.source.SourceWords.SourceWords, declared.words.StepWord.StepWord, declared.words.MediaWord.MediaWord, declared.references.Needed.Needed}
 use Rattle.script_steps.specs.References.{unused, variable_if, bound_on, given_to, encoded_data, bound_from, on_of, ground_on, variable_in}
-use Rattle.script_steps.specs.MediaSteps.{size_in, options_in, media_by}
-use Rattle.script_steps.specs.Steps.{numbered, no_file, promise_in, step_by}
+use Rattle.script_steps.specs.MediaSteps.{made_with, size_in, options_in, media_by}
+use Rattle.script_steps.specs.Steps.{numbered, chunk_with_buffers, is_buffered_chunk, no_file, promise_in, step_by}
 use Rattle.script_steps.specs.Words.{word_in}
-use Rattle.script_steps.specs.Chains.{chain}
-use Rattle.script_steps.specs.Within.{Is32Bits, HasSmallNumbers, IsSmallChunk, IsSmallSound, IsSmallPicture, IsSmallSource, IsSmallMedia, IsStepWithin, StepsAreWithin}
+use Rattle.script_steps.specs.Chains.{chain, needed_some}
+use Rattle.script_steps.specs.Within.{Is32Bits, HasSmallNumbers, IsSmallShape, IsSmallData, IsSmallChunk, IsSmallSound, IsSmallPicture, IsSmallSource, IsSmallMedia, IsStepWithin, StepsAreWithin}
 use Rattle.script_steps.proofs.ReferenceLaws.{by_part, made}
+use Rattle.script_steps.proofs.MediaLaws.{either}
 
 -- ---- single members
 
@@ -167,52 +172,138 @@ config_small Kind.VideoEncoder d =
 
 -- ---- inits
 
-chunk_made : (key : Option Bool) (t : Option ℤ) (duration : Option (Option ℕ)) (content : Option (List ℕ)) → IfSome t (λ z. mag z < 2 ^ 63) → IfSome duration (λ m. IfSome m (λ n. n < 2 ^ 64)) → IfSome content IsBytes
-    → IfSome (chunk_with key t duration content) IsSmallChunk
-chunk_made (Some k) (Some t) (Some u) (Some c) p q r = record { timestamp = p; duration = q; content = r }
-chunk_made (Some k) (Some t) (Some u) None p q r = tt
-chunk_made (Some k) (Some t) None c p q r = tt
-chunk_made (Some k) None u c p q r = tt
-chunk_made None t u c p q r = tt
+abbrev HasSmallShape : Option InitShape → Type 0
+HasSmallShape o = IfSome o IsSmallShape
+
+chunk_shaped : (key : Option Bool) (t : Option ℤ) (duration : Option (Option ℕ)) → IfSome t (λ z. mag z < 2 ^ 63) → IfSome duration (λ m. IfSome m (λ n. n < 2 ^ 64)) → HasSmallShape (chunk_shape_with key t duration)
+chunk_shaped (Some k) (Some t) (Some u) p q = (p, q)
+chunk_shaped (Some k) (Some t) None p q = tt
+chunk_shaped (Some k) None u p q = tt
+chunk_shaped None t u p q = tt
+
+chunk_shape_small : (d : Data) → IfOk (chunk_shape_of d) HasSmallShape
+chunk_shape_small d =
+    by_part (required (word_of key_of) (get (codes "type") d)) _ _ (λ key k. by_part (timestamp_in d) _ _ (λ timestamp t. by_part (duration_in d) _ _ (λ duration l.
+    chunk_shaped key timestamp duration (of _ (timestamp_in d) timestamp t (timestamp_small d)) (of _ (duration_in d) duration l (duration_small d)))))
+
+chunk_made : (shape : Option InitShape) (content : Option (List ℕ)) → HasSmallShape shape → IfSome content IsBytes → IfSome (chunk_with shape content) IsSmallChunk
+chunk_made (Some (InitShape.Chunk k t u)) (Some c) p r = record { timestamp = p.0; duration = p.1; content = r }
+chunk_made (Some (InitShape.Chunk k t u)) None p r = tt
+chunk_made (Some (InitShape.Sound s)) c p r = tt
+chunk_made (Some (InitShape.Picture s)) c p r = tt
+chunk_made None c p r = tt
 
 chunk_small : (d : Data) → IfOk (chunk_of d) (λ o. IfSome o IsSmallChunk)
 chunk_small d =
-    by_part (required (word_of key_of) (get (codes "type") d)) _ _ (λ key k. by_part (timestamp_in d) _ _ (λ timestamp t. by_part (duration_in d) _ _ (λ duration l. by_part (content_in d) _ _ (λ content c.
-    chunk_made key timestamp duration content (of _ (timestamp_in d) timestamp t (timestamp_small d)) (of _ (duration_in d) duration l (duration_small d)) (of _ (content_in d) content c (content_small d))))))
+    by_part (chunk_shape_of d) _ _ (λ shape s. by_part (content_in d) _ _ (λ content c.
+    chunk_made shape content (IfOk-at_ok HasSmallShape s (chunk_shape_small d)) (of _ (content_in d) content c (content_small d))))
 
-sound_made : (format : Option SampleFormat) (rate frames channels : Option ℕ) (t : Option ℤ) (content : Option (List ℕ)) → IfSome frames Is32Bits → IfSome t (λ z. mag z < 2 ^ 63) → IfSome content IsBytes
-    → IfSome (sound_with format rate frames channels t content) IsSmallSound
-sound_made (Some f) (Some r) (Some n) (Some c) (Some t) (Some b) p q k = record { frames = p; timestamp = q; content = k }
-sound_made (Some f) (Some r) (Some n) (Some c) (Some t) None p q k = tt
-sound_made (Some f) (Some r) (Some n) (Some c) None b p q k = tt
-sound_made (Some f) (Some r) (Some n) None t b p q k = tt
-sound_made (Some f) (Some r) None c t b p q k = tt
-sound_made (Some f) None n c t b p q k = tt
-sound_made None r n c t b p q k = tt
+-- as many frames as 32 bits count, and a timestamp of 64 bits with its sign
+abbrev IsSmallSoundShape : SoundShape → Type 0
+IsSmallSoundShape s = Is32Bits s.frames × (mag s.timestamp < 2 ^ 63)
+
+sound_shaped : (format : Option SampleFormat) (rate frames channels : Option ℕ) (t : Option ℤ) → IfSome frames Is32Bits → IfSome t (λ z. mag z < 2 ^ 63) → IfSome (sound_shape_with format rate frames channels t) IsSmallSoundShape
+sound_shaped (Some f) (Some r) (Some n) (Some c) (Some t) p q = (p, q)
+sound_shaped (Some f) (Some r) (Some n) (Some c) None p q = tt
+sound_shaped (Some f) (Some r) (Some n) None t p q = tt
+sound_shaped (Some f) (Some r) None c t p q = tt
+sound_shaped (Some f) None n c t p q = tt
+sound_shaped None r n c t p q = tt
+
+sound_shape_small : (d : Data) → IfOk (sound_shape_of d) (λ o. IfSome o IsSmallSoundShape)
+sound_shape_small d =
+    by_part (required (word_of sample_format_of) (get (codes "format") d)) _ _ (λ format f. by_part (required u32_of (get (codes "sampleRate") d)) _ _ (λ rate r.
+    by_part (required u32_of (get (codes "numberOfFrames") d)) _ _ (λ frames n. by_part (required u32_of (get (codes "numberOfChannels") d)) _ _ (λ channels c.
+    by_part (timestamp_in d) _ _ (λ timestamp t.
+    sound_shaped format rate frames channels timestamp (of _ (required u32_of (get (codes "numberOfFrames") d)) frames n (required_if u32_of Is32Bits (get (codes "numberOfFrames") d) u32_small))
+    (of _ (timestamp_in d) timestamp t (timestamp_small d)))))))
+
+sound_made : (shape : Option SoundShape) (content : Option (List ℕ)) → IfSome shape IsSmallSoundShape → IfSome content IsBytes → IfSome (sound_with shape content) IsSmallSound
+sound_made (Some s) (Some b) p k = record { frames = p.0; timestamp = p.1; content = k }
+sound_made (Some s) None p k = tt
+sound_made None b p k = tt
 
 sound_small : (d : Data) → IfOk (sound_of d) (λ o. IfSome o IsSmallSound)
 sound_small d =
-    by_part (required (word_of sample_format_of) (get (codes "format") d)) _ _ (λ format f. by_part (required u32_of (get (codes "sampleRate") d)) _ _ (λ rate r.
-    by_part (required u32_of (get (codes "numberOfFrames") d)) _ _ (λ frames n. by_part (required u32_of (get (codes "numberOfChannels") d)) _ _ (λ channels c.
-    by_part (timestamp_in d) _ _ (λ timestamp t. by_part (content_in d) _ _ (λ content b.
-    sound_made format rate frames channels timestamp content (of _ (required u32_of (get (codes "numberOfFrames") d)) frames n (required_if u32_of Is32Bits (get (codes "numberOfFrames") d) u32_small))
-    (of _ (timestamp_in d) timestamp t (timestamp_small d)) (of _ (content_in d) content b (content_small d))))))))
+    by_part (sound_shape_of d) _ _ (λ shape s. by_part (content_in d) _ _ (λ content b.
+    sound_made shape content (of IsSmallSoundShape (sound_shape_of d) shape s (sound_shape_small d)) (of _ (content_in d) content b (content_small d))))
 
-picture_made : (format : Option PictureFormat) (width height : Option ℕ) (t : Option ℤ) (duration : Option (Option ℕ)) (content : Option (List ℕ)) → IfSome t (λ z. mag z < 2 ^ 63) → IfSome duration (λ m. IfSome m (λ n. n < 2 ^ 64)) → IfSome content IsBytes
-    → IfSome (picture_with format width height t duration content) IsSmallPicture
-picture_made (Some f) (Some w) (Some h) (Some t) (Some u) (Some b) p q k = record { timestamp = p; duration = q; content = k }
-picture_made (Some f) (Some w) (Some h) (Some t) (Some u) None p q k = tt
-picture_made (Some f) (Some w) (Some h) (Some t) None b p q k = tt
-picture_made (Some f) (Some w) (Some h) None u b p q k = tt
-picture_made (Some f) (Some w) None t u b p q k = tt
-picture_made (Some f) None h t u b p q k = tt
-picture_made None w h t u b p q k = tt
+-- a timestamp of 64 bits with its sign, and a duration of 64
+abbrev IsSmallPictureShape : PictureShape → Type 0
+IsSmallPictureShape s = (mag s.timestamp < 2 ^ 63) × IfSome s.duration (λ n. n < 2 ^ 64)
+
+picture_shaped : (format : Option PictureFormat) (width height : Option ℕ) (t : Option ℤ) (duration : Option (Option ℕ)) → IfSome t (λ z. mag z < 2 ^ 63) → IfSome duration (λ m. IfSome m (λ n. n < 2 ^ 64))
+    → IfSome (picture_shape_with format width height t duration) IsSmallPictureShape
+picture_shaped (Some f) (Some w) (Some h) (Some t) (Some u) p q = (p, q)
+picture_shaped (Some f) (Some w) (Some h) (Some t) None p q = tt
+picture_shaped (Some f) (Some w) (Some h) None u p q = tt
+picture_shaped (Some f) (Some w) None t u p q = tt
+picture_shaped (Some f) None h t u p q = tt
+picture_shaped None w h t u p q = tt
+
+picture_shape_small : (d : Data) → IfOk (picture_shape_of d) (λ o. IfSome o IsSmallPictureShape)
+picture_shape_small d =
+    by_part (required (word_of picture_format_of) (get (codes "format") d)) _ _ (λ format f. by_part (required u32_of (get (codes "codedWidth") d)) _ _ (λ width w.
+    by_part (required u32_of (get (codes "codedHeight") d)) _ _ (λ height h. by_part (timestamp_in d) _ _ (λ timestamp t. by_part (duration_in d) _ _ (λ duration l.
+    picture_shaped format width height timestamp duration (of _ (timestamp_in d) timestamp t (timestamp_small d)) (of _ (duration_in d) duration l (duration_small d)))))))
+
+picture_made : (shape : Option PictureShape) (content : Option (List ℕ)) → IfSome shape IsSmallPictureShape → IfSome content IsBytes → IfSome (picture_with shape content) IsSmallPicture
+picture_made (Some s) (Some b) p k = record { timestamp = p.0; duration = p.1; content = k }
+picture_made (Some s) None p k = tt
+picture_made None b p k = tt
 
 picture_small : (d : Data) → IfOk (picture_of d) (λ o. IfSome o IsSmallPicture)
 picture_small d =
-    by_part (required (word_of picture_format_of) (get (codes "format") d)) _ _ (λ format f. by_part (required u32_of (get (codes "codedWidth") d)) _ _ (λ width w.
-    by_part (required u32_of (get (codes "codedHeight") d)) _ _ (λ height h. by_part (timestamp_in d) _ _ (λ timestamp t. by_part (duration_in d) _ _ (λ duration l. by_part (content_in d) _ _ (λ content b.
-    picture_made format width height timestamp duration content (of _ (timestamp_in d) timestamp t (timestamp_small d)) (of _ (duration_in d) duration l (duration_small d)) (of _ (content_in d) content b (content_small d))))))))
+    by_part (picture_shape_of d) _ _ (λ shape s. by_part (content_in d) _ _ (λ content b.
+    picture_made shape content (of IsSmallPictureShape (picture_shape_of d) shape s (picture_shape_small d)) (of _ (content_in d) content b (content_small d))))
+
+-- ---- inits that name buffers
+
+sound_of_any : (o : Option SoundShape) → IfSome o IsSmallSoundShape → HasSmallShape (option_map (λ x. InitShape.Sound x) o)
+sound_of_any (Some s) h = h
+sound_of_any None h = tt
+
+picture_of_any : (o : Option PictureShape) → IfSome o IsSmallPictureShape → HasSmallShape (option_map (λ x. InitShape.Picture x) o)
+picture_of_any (Some s) h = h
+picture_of_any None h = tt
+
+shape_small : (k : VariableKind) (d : Data) → IfOk (init_shape_of k d) HasSmallShape
+shape_small VariableKind.Chunk d = chunk_shape_small d
+shape_small VariableKind.Audio d = made (sound_shape_of d) _ (λ o. IfSome o IsSmallSoundShape) _ (sound_shape_small d) sound_of_any
+shape_small VariableKind.Frame d = made (picture_shape_of d) _ (λ o. IfSome o IsSmallPictureShape) _ (picture_shape_small d) picture_of_any
+shape_small VariableKind.Promise d = tt
+shape_small VariableKind.Buffer d = tt
+
+abbrev HasSmallData : Option InitData → Type 0
+HasSmallData o = IfSome o IsSmallData
+
+hex_text : (o : Option (List ℕ)) → IfSome (option_and_then (λ text. decoded (decode_of text)) o) IsBytes
+hex_text None = tt
+hex_text (Some text) = decoded_bytes text (decode_of text) refl
+
+data_by_small : (before : List Step) (d : Data) (bytes : Option (List ℕ)) → IfSome bytes IsBytes → IfOk (data_by before d bytes) (λ w. IfOk (known_data w) HasSmallData)
+data_by_small before d (Some bytes) h = h
+data_by_small before d None h = by_part (name_in (codes "buffer") d) _ _ (λ name n. by_part (buffer_if before name) _ _ (λ b e. by_part (known_buffer b) _ _ (λ v k. tt)))
+
+data_small : (before : List Step) (o : Option Data) → IfOk (data_words before o) (λ w. IfOk (known_data w) HasSmallData)
+data_small before None = tt
+data_small before (Some d) = data_by_small before d _ (hex_text (as_str d))
+
+abbrev HasSmallInit : Option BufferedInit → Type 0
+HasSmallInit o = IfSome o (λ i. IsSmallShape i.shape × IsSmallData i.content)
+
+with_small : (shape : Option InitShape) (content : Option InitData) (transfer : List Variable) → HasSmallShape shape → HasSmallData content → HasSmallInit (buffered_with shape content transfer)
+with_small (Some s) (Some c) transfer p q = (p, q)
+with_small (Some s) None transfer p q = tt
+with_small None c transfer p q = tt
+
+buffered_small : (k : VariableKind) (before : List Step) (d : Data) → IfOk (buffered_of k before d) (λ b. HasSmallInit b.1)
+buffered_small k before d =
+    by_part (name_in (codes "as") d) _ _ (λ name n. by_part (object_in (codes "init") d) _ _ (λ object o. by_part (init_shape_of k object) _ _ (λ shape s.
+    by_part (data_words before (get (codes "data") object)) _ _ (λ w dw. by_part (transfer_words before (get (codes "transfer") object)) _ _ (λ listed l. by_part (unused before name) _ _ (λ bind u.
+    by_part (known_data w) _ _ (λ content c. by_part (known_buffers [] listed) _ _ (λ transfer t.
+    with_small shape content transfer (IfOk-at_ok HasSmallShape s (shape_small k object))
+    (IfOk-at_ok HasSmallData c (IfOk-at_ok (λ x. IfOk (known_data x) HasSmallData) dw (data_small before (get (codes "data") object))))))))))))
 
 -- ---- steps
 
@@ -230,47 +321,65 @@ free_media : {A : Type 0} (r : Result A (Stop Wrong)) (make : A → MediaStep) �
 free_media (Ok a) make h = h a
 free_media (Err e) make h = tt
 
-media_small : (codecs : List CodecItem) (before : List Step) (d : Data) (w : MediaWord) → IfOk (media_by codecs before d w) IsSmallMedia
-media_small codecs before d MediaWord.Audio =
+buffer_bytes : (o : Option Data) (content : List ℕ) → there (option_and_then hex_of o) ≡ Ok content → IsBytes content
+buffer_bytes None content h = absurd cc
+buffer_bytes (Some d) content h = subst (λ (o : Option (List ℕ)). IfSome o IsBytes) (needed_some (hex_of d) content h) (hex_text (as_str d))
+
+media_made : (refused : List ℕ → MediaStep) (b : List ℕ × Option BufferedInit) → ((bind : List ℕ) → IsSmallMedia (refused bind)) → HasSmallInit b.1 → IsSmallMedia (made_with refused b)
+media_made refused (bind, None) h k = h bind
+media_made refused (bind, Some i) h k = k
+
+media_small : (codecs : List CodecItem) (ports : List (Option PortItem)) (before : List Step) (d : Data) (w : MediaWord) → IfOk (media_by codecs ports before d w) IsSmallMedia
+media_small codecs ports before d MediaWord.Audio = either (has_buffers d) _ _ _ (made (buffered_of VariableKind.Audio before d) _ (λ b. HasSmallInit b.1) _ (buffered_small VariableKind.Audio before d) (λ b. media_made (λ bind. MediaStep.Audio bind None) b (λ bind. tt))) (
     by_part (name_in (codes "as") d) _ _ (λ name n. by_part (object_in (codes "init") d) _ _ (λ object o. by_part (sound_of object) _ _ (λ init i. by_part (unused before name) _ _ (λ bind u.
-    IfOk-at_ok (λ x. IfSome x IsSmallSound) i (sound_small object)))))
-media_small codecs before d MediaWord.Frame =
+    IfOk-at_ok (λ x. IfSome x IsSmallSound) i (sound_small object))))))
+media_small codecs ports before d MediaWord.Frame = either (has_buffers d) _ _ _ (made (buffered_of VariableKind.Frame before d) _ (λ b. HasSmallInit b.1) _ (buffered_small VariableKind.Frame before d) (λ b. media_made (λ bind. MediaStep.Frame bind None) b (λ bind. tt))) (
     by_part (name_in (codes "as") d) _ _ (λ name n. by_part (object_in (codes "init") d) _ _ (λ object o. by_part (picture_of object) _ _ (λ init i. by_part (unused before name) _ _ (λ bind u.
-    IfOk-at_ok (λ x. IfSome x IsSmallPicture) i (picture_small object)))))
-media_small codecs before d MediaWord.Encode = free_media (encoded_data codecs before d) _ (λ g. tt)
-media_small codecs before d MediaWord.Take = free_media (bound_on codecs before d) _ (λ b. tt)
-media_small codecs before d MediaWord.Clone = free_media (bound_from before d) _ (λ b. tt)
-media_small codecs before d MediaWord.Transfer = free_media (bound_from before d) _ (λ b. tt)
-media_small codecs before d MediaWord.CloseData = free_media (variable_in (codes "of") Needed.Medium before d) _ (λ v. tt)
-media_small codecs before d MediaWord.Copy =
+    IfOk-at_ok (λ x. IfSome x IsSmallPicture) i (picture_small object))))))
+media_small codecs ports before d MediaWord.Buffer = by_part (name_in (codes "as") d) _ _ (λ name n. by_part (there (data_of_init d)) _ _ (λ content c. by_part (unused before name) _ _ (λ bind u. buffer_bytes (get (codes "data") d) content c)))
+media_small codecs ports before d MediaWord.Encode = free_media (encoded_data codecs before d) _ (λ g. tt)
+media_small codecs ports before d MediaWord.Take = free_media (bound_on codecs before d) _ (λ b. tt)
+media_small codecs ports before d MediaWord.Clone = free_media (bound_from before d) _ (λ b. tt)
+media_small codecs ports before d MediaWord.Transfer = free_media (bound_from before d) _ (λ b. tt)
+media_small codecs ports before d MediaWord.CloseData = free_media (variable_in (codes "of") Needed.Medium before d) _ (λ v. tt)
+media_small codecs ports before d MediaWord.Copy =
     by_part (name_in (codes "of") d) _ _ (λ name n. by_part (size_in d) _ _ (λ size s. by_part (variable_if Needed.Copied before name) _ _ (λ maybe m. by_part (options_in maybe d) _ _ (λ options o.
     by_part (known maybe) _ _ (λ found k. tt)))))
-media_small codecs before d MediaWord.Size =
-    by_part (name_in (codes "of") d) _ _ (λ name n. by_part (variable_if Needed.Medium before name) _ _ (λ maybe m. by_part (options_in maybe d) _ _ (λ options o. by_part (known maybe) _ _ (λ found k. tt))))
+media_small codecs ports before d MediaWord.Size =
+    by_part (name_in (codes "of") d) _ _ (λ name n. by_part (variable_if Needed.Sized before name) _ _ (λ maybe m. by_part (options_in maybe d) _ _ (λ options o. by_part (known maybe) _ _ (λ found k. tt))))
+media_small codecs ports before d MediaWord.Post =
+    by_part (name_in (codes "to") d) _ _ (λ to t. by_part (name_in (codes "data") d) _ _ (λ name n. by_part (variable_if (posted_by (port_named_in ports to)) before name) _ _ (λ maybe m.
+    by_part (known (port_named_in ports to)) _ _ (λ p k. by_part (known maybe) _ _ (λ found l. tt)))))
+media_small codecs ports before d MediaWord.Receive =
+    by_part (name_in (codes "from") d) _ _ (λ from f. by_part (name_in (codes "as") d) _ _ (λ name n. by_part (unused before name) _ _ (λ bind u. by_part (known (port_named_in ports from)) _ _ (λ p k. tt))))
 
 -- a step that mentions no file
 plain : (files : List (List ℕ)) (r : Result Step (Stop Wrong)) → IfOk r IsStepWithin → IfOk (no_file files r) (λ x. IsStepWithin x.0)
 plain files (Ok s) h = h
 plain files (Err e) h = tt
 
-step_small : (codecs : List CodecItem) (files : List (List ℕ)) (before : List Step) (d : Data) (w : StepWord) → IfOk (step_by codecs files before d w) (λ x. IsStepWithin x.0)
-step_small codecs files before d StepWord.Configure = plain files _ (
+chunk_small_made : (files : List (List ℕ)) (b : List ℕ × Option BufferedInit) → HasSmallInit b.1 → IsStepWithin (chunk_with_buffers b)
+chunk_small_made files (bind, None) h = tt
+chunk_small_made files (bind, Some i) h = h
+
+step_small : (codecs : List CodecItem) (ports : List (Option PortItem)) (files : List (List ℕ)) (before : List Step) (d : Data) (w : StepWord) → IfOk (step_by codecs ports files before d w) (λ x. IsStepWithin x.0)
+step_small codecs ports files before d StepWord.Configure = plain files _ (
     by_part (name_in (codes "on") d) _ _ (λ on n. by_part (object_in (codes "config") d) _ _ (λ object o. by_part (known (codec_named codecs on)) _ _ (λ codec k. by_part (config_of codec.kind object) _ _ (λ config c.
     IfOk-at_ok HasSmallNumbers c (config_small codec.kind object))))))
-step_small codecs files before d StepWord.Chunk =
+step_small codecs ports files before d StepWord.Chunk = either (is_buffered_chunk d) _ _ _ (plain files _ (made (buffered_of VariableKind.Chunk before d) chunk_with_buffers (λ b. HasSmallInit b.1) _ (buffered_small VariableKind.Chunk before d) (chunk_small_made files))) (
     by_part (name_in (codes "as") d) _ _ (λ name n. by_part (source_of d) _ _ (λ source s. by_part (unused before name) _ _ (λ bind u.
-    IfOk-at_ok (λ x. IsSmallSource (numbered files x).0) s (source_made (has (codes "init") d) (has (codes "file") d) (has (codes "index") d) files d))))
-step_small codecs files before d StepWord.Decode = plain files _ (free (given_to decodes (codes "chunk") Needed.Chunk codecs before d) _ (λ g. tt))
-step_small codecs files before d StepWord.Flush = plain files _ (free (bound_on codecs before d) _ (λ b. tt))
-step_small codecs files before d StepWord.Poll = plain files _ (free (promise_in before d) Step.Poll (λ v. tt))
-step_small codecs files before d StepWord.Await = plain files _ (free (promise_in before d) Step.Await (λ v. tt))
-step_small codecs files before d StepWord.Reset = plain files _ (free (on_of codecs d) Step.Reset (λ on. tt))
-step_small codecs files before d StepWord.Close = plain files _ (free (on_of codecs d) Step.Close (λ on. tt))
-step_small codecs files before d StepWord.State = plain files _ (free (on_of codecs d) Step.State (λ on. tt))
-step_small codecs files before d StepWord.Ground = plain files _ (free (ground_on codecs d) _ (λ g. tt))
-step_small codecs files before d (StepWord.Media w) = plain files _ (made (media_by codecs before d w) Step.Media IsSmallMedia _ (media_small codecs before d w) (λ m s. s))
+    IfOk-at_ok (λ x. IsSmallSource (numbered files x).0) s (source_made (has (codes "init") d) (has (codes "file") d) (has (codes "index") d) files d)))))
+step_small codecs ports files before d StepWord.Decode = plain files _ (free (given_to decodes (codes "chunk") Needed.Chunk codecs before d) _ (λ g. tt))
+step_small codecs ports files before d StepWord.Flush = plain files _ (free (bound_on codecs before d) _ (λ b. tt))
+step_small codecs ports files before d StepWord.Poll = plain files _ (free (promise_in before d) Step.Poll (λ v. tt))
+step_small codecs ports files before d StepWord.Await = plain files _ (free (promise_in before d) Step.Await (λ v. tt))
+step_small codecs ports files before d StepWord.Reset = plain files _ (free (on_of codecs d) Step.Reset (λ on. tt))
+step_small codecs ports files before d StepWord.Close = plain files _ (free (on_of codecs d) Step.Close (λ on. tt))
+step_small codecs ports files before d StepWord.State = plain files _ (free (on_of codecs d) Step.State (λ on. tt))
+step_small codecs ports files before d StepWord.Ground = plain files _ (free (ground_on codecs d) _ (λ g. tt))
+step_small codecs ports files before d (StepWord.Media w) = plain files _ (made (media_by codecs ports before d w) Step.Media IsSmallMedia _ (media_small codecs ports before d w) (λ m s. s))
 
 pub step_within : StepsAreWithin
-step_within codecs files before d s after h =
+step_within codecs ports files before d s after h =
     let w = chain (there (word_in d)) _ (s, after) h in
-    IfOk-at_ok (λ x. IsStepWithin x.0) w.rest (step_small codecs files before d w.value)
+    IfOk-at_ok (λ x. IsStepWithin x.0) w.rest (step_small codecs ports files before d w.value)

@@ -100,12 +100,13 @@ frame_options_of object =
 
 -- ---- by the kind of what is copied
 
--- the members of a chunk's options are not looked at, and a promise is never copied
+-- the members of a chunk's or a buffer's options are not looked at, and a promise is never copied
 abbrev pub options_by : VariableKind → Option Data → Result Options (Stop Wrong)
 options_by holds.Audio object = and_then (audio_options_of object) (λ o. Ok (options.Audio o))
 options_by holds.Frame object = and_then (frame_options_of object) (λ o. Ok (options.Frame o))
 options_by holds.Chunk object = Ok options.Nothing
 options_by holds.Promise object = Ok options.Nothing
+options_by holds.Buffer object = Ok options.Nothing
 
 abbrev pub options_for : VariableKind → Option Data → Result Options (Stop Wrong)
 options_for kind d = and_then (object_if_there d) (options_by kind)

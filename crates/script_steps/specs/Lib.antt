@@ -1,4 +1,5 @@
 pub mod Members
+pub mod Counts
 pub mod ConfigRead
 pub mod Media
 pub mod CopyOptions
@@ -7,6 +8,8 @@ pub mod Files
 pub mod Places
 pub mod Words
 pub mod References
+pub mod Buffers
+pub mod Ports
 pub mod MediaSteps
 pub mod Steps
 pub mod Soundness

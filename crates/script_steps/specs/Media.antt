@@ -1,12 +1,18 @@
 -- What chunks, audio data and frames are made of (W3C WebCodecs, EncodedAudioChunkInit, AudioDataInit and
 -- VideoFrameBufferInit; data as hex text, a rate in whole numbers and the formats that are taken are our choice).
-use Rattle.std.specs.Prelude.{ℕ, ℤ, Bool, true, false, List, bytes_eq, codes, if◌then◌else◌, Option, Some, None, option_and_then, Result, Ok}
+use Rattle.std.specs.Prelude.{ℕ, ℤ, Bool, true, false, List, bytes_eq, codes, if◌then◌else◌, Option, Some, None, option_map, option_and_then, Result, Ok}
 use Rattle.serde_json.specs.Data.{Data}
 use Rattle.serde_json.specs.Find.{get}
 use Rattle.wc_base.specs.declared.media.SampleFormat.{SampleFormat}
 use Rattle.wc_base.specs.declared.media.SampleFormat.TheVariants as sample
 use Rattle.wc_base.specs.declared.media.PictureFormat.{PictureFormat}
 use Rattle.wc_base.specs.declared.media.PictureFormat.TheVariants as picture
+use Rattle.wc_base.specs.declared.media.SoundShape.{SoundShape}
+use Rattle.wc_base.specs.declared.media.PictureShape.{PictureShape}
+use Rattle.script_types.specs.declared.steps.VariableKind.{VariableKind}
+use Rattle.script_types.specs.declared.steps.VariableKind.TheVariants as holds
+use Rattle.script_types.specs.declared.steps.InitShape.{InitShape}
+use Rattle.script_types.specs.declared.steps.InitShape.TheVariants as shape
 use Rattle.script_types.specs.declared.steps.ChunkInit.{ChunkInit}
 use Rattle.script_types.specs.declared.steps.SoundInit.{SoundInit}
 use Rattle.script_types.specs.declared.steps.PictureInit.{PictureInit}
@@ -43,17 +49,24 @@ content_in d = required data_value (get (codes "data") d)
 abbrev pub key_of : List ℕ → Option Bool
 key_of text = if bytes_eq text (codes "key") then Some true else if bytes_eq text (codes "delta") then Some false else None
 
+-- what an init says of its chunk apart from its data, where each member has a value
+abbrev pub chunk_shape_with : Option Bool → Option ℤ → Option (Option ℕ) → Option InitShape
+chunk_shape_with (Some key) (Some timestamp) (Some duration) = Some (shape.Chunk key timestamp duration)
+chunk_shape_with _ _ _ = None
+
+abbrev pub chunk_shape_of : Data → Result (Option InitShape) (Stop Wrong)
+chunk_shape_of d =
+    and_then (required (word_of key_of) (get (codes "type") d)) (λ key.
+    and_then (timestamp_in d) (λ timestamp. and_then (duration_in d) (λ duration. Ok (chunk_shape_with key timestamp duration))))
+
 -- a chunk's init, where each member has a value
-abbrev pub chunk_with : Option Bool → Option ℤ → Option (Option ℕ) → Option (List ℕ) → Option ChunkInit
-chunk_with (Some key) (Some timestamp) (Some duration) (Some content) =
+abbrev pub chunk_with : Option InitShape → Option (List ℕ) → Option ChunkInit
+chunk_with (Some (shape.Chunk key timestamp duration)) (Some content) =
     Some (record { key = key; timestamp = timestamp; duration = duration; content = content })
-chunk_with _ _ _ _ = None
+chunk_with _ _ = None
 
 abbrev pub chunk_of : Data → Result (Option ChunkInit) (Stop Wrong)
-chunk_of d =
-    and_then (required (word_of key_of) (get (codes "type") d)) (λ key.
-    and_then (timestamp_in d) (λ timestamp. and_then (duration_in d) (λ duration.
-    and_then (content_in d) (λ content. Ok (chunk_with key timestamp duration content)))))
+chunk_of d = and_then (chunk_shape_of d) (λ shape. and_then (content_in d) (λ content. Ok (chunk_with shape content)))
 
 -- ---- audio data
 
@@ -68,23 +81,27 @@ sample_format_of text =
     else if bytes_eq text (codes "s32-planar") then Some sample.S32Planar
     else None
 
--- audio data's init, where each member has a value
-abbrev pub sound_with : Option SampleFormat → Option ℕ → Option ℕ → Option ℕ → Option ℤ → Option (List ℕ) → Option SoundInit
-sound_with (Some format) (Some rate) (Some frames) (Some channels) (Some timestamp) (Some content) =
-    Some (record {
-      shape = record { format = format; rate = rate; channels = channels; frames = frames; timestamp = timestamp };
-      content = content;
-    })
-sound_with _ _ _ _ _ _ = None
+-- the shape of audio data, where each member has a value
+abbrev pub sound_shape_with : Option SampleFormat → Option ℕ → Option ℕ → Option ℕ → Option ℤ → Option SoundShape
+sound_shape_with (Some format) (Some rate) (Some frames) (Some channels) (Some timestamp) =
+    Some (record { format = format; rate = rate; channels = channels; frames = frames; timestamp = timestamp })
+sound_shape_with _ _ _ _ _ = None
 
-abbrev pub sound_of : Data → Result (Option SoundInit) (Stop Wrong)
-sound_of d =
+abbrev pub sound_shape_of : Data → Result (Option SoundShape) (Stop Wrong)
+sound_shape_of d =
     and_then (required (word_of sample_format_of) (get (codes "format") d)) (λ format.
     and_then (required u32_of (get (codes "sampleRate") d)) (λ rate.
     and_then (required u32_of (get (codes "numberOfFrames") d)) (λ frames.
     and_then (required u32_of (get (codes "numberOfChannels") d)) (λ channels.
-    and_then (timestamp_in d) (λ timestamp. and_then (content_in d) (λ content.
-    Ok (sound_with format rate frames channels timestamp content)))))))
+    and_then (timestamp_in d) (λ timestamp. Ok (sound_shape_with format rate frames channels timestamp))))))
+
+-- audio data's init, where each member has a value
+abbrev pub sound_with : Option SoundShape → Option (List ℕ) → Option SoundInit
+sound_with (Some shape) (Some content) = Some (record { shape = shape; content = content })
+sound_with _ _ = None
+
+abbrev pub sound_of : Data → Result (Option SoundInit) (Stop Wrong)
+sound_of d = and_then (sound_shape_of d) (λ shape. and_then (content_in d) (λ content. Ok (sound_with shape content)))
 
 -- ---- frames
 
@@ -97,19 +114,33 @@ picture_format_of text =
     else if bytes_eq text (codes "NV12") then Some picture.Nv12
     else None
 
--- a frame's init, where each member has a value
-abbrev pub picture_with : Option PictureFormat → Option ℕ → Option ℕ → Option ℤ → Option (Option ℕ) → Option (List ℕ) → Option PictureInit
-picture_with (Some format) (Some width) (Some height) (Some timestamp) (Some duration) (Some content) =
-    Some (record {
-      shape = record { format = format; width = width; height = height; timestamp = timestamp; duration = duration };
-      content = content;
-    })
-picture_with _ _ _ _ _ _ = None
+-- the shape of a frame, where each member has a value
+abbrev pub picture_shape_with : Option PictureFormat → Option ℕ → Option ℕ → Option ℤ → Option (Option ℕ) → Option PictureShape
+picture_shape_with (Some format) (Some width) (Some height) (Some timestamp) (Some duration) =
+    Some (record { format = format; width = width; height = height; timestamp = timestamp; duration = duration })
+picture_shape_with _ _ _ _ _ = None
 
-abbrev pub picture_of : Data → Result (Option PictureInit) (Stop Wrong)
-picture_of d =
+abbrev pub picture_shape_of : Data → Result (Option PictureShape) (Stop Wrong)
+picture_shape_of d =
     and_then (required (word_of picture_format_of) (get (codes "format") d)) (λ format.
     and_then (required u32_of (get (codes "codedWidth") d)) (λ width.
     and_then (required u32_of (get (codes "codedHeight") d)) (λ height.
     and_then (timestamp_in d) (λ timestamp. and_then (duration_in d) (λ duration.
-    and_then (content_in d) (λ content. Ok (picture_with format width height timestamp duration content)))))))
+    Ok (picture_shape_with format width height timestamp duration))))))
+
+-- a frame's init, where each member has a value
+abbrev pub picture_with : Option PictureShape → Option (List ℕ) → Option PictureInit
+picture_with (Some shape) (Some content) = Some (record { shape = shape; content = content })
+picture_with _ _ = None
+
+abbrev pub picture_of : Data → Result (Option PictureInit) (Stop Wrong)
+picture_of d = and_then (picture_shape_of d) (λ shape. and_then (content_in d) (λ content. Ok (picture_with shape content)))
+
+-- ---- any of the three
+
+-- what an init says of what it makes, which is of this kind, apart from its data
+abbrev pub init_shape_of : VariableKind → Data → Result (Option InitShape) (Stop Wrong)
+init_shape_of holds.Chunk d = chunk_shape_of d
+init_shape_of holds.Audio d = and_then (sound_shape_of d) (λ s. Ok (option_map (λ x. shape.Sound x) s))
+init_shape_of holds.Frame d = and_then (picture_shape_of d) (λ s. Ok (option_map (λ x. shape.Picture x) s))
+init_shape_of _ d = Ok None

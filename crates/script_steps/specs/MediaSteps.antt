@@ -6,6 +6,9 @@ use Rattle.script_types.specs.declared.script.CodecItem.{CodecItem}
 use Rattle.script_types.specs.declared.found.FoundVariable.{FoundVariable}
 use Rattle.script_types.specs.declared.options.Options.{Options}
 use Rattle.script_types.specs.declared.options.Options.TheVariants as options
+use Rattle.script_types.specs.declared.script.PortItem.{PortItem}
+use Rattle.script_types.specs.declared.steps.BufferedInit.{BufferedInit}
+use Rattle.script_types.specs.declared.steps.VariableKind.TheVariants as holds
 use Rattle.script_types.specs.declared.steps.Step.{Step}
 use Rattle.script_types.specs.declared.steps.MediaStep.{MediaStep}
 use Rattle.script_types.specs.declared.steps.MediaStep.TheVariants as media
@@ -14,22 +17,44 @@ use Rattle.script_types.specs.Sound.{most_chunk}
 use Rattle.chunk_files.specs.declared.fault.Stop.{Stop}
 use Rattle.script_types.specs.declared.fault.Wrong.{Wrong}
 use Rattle.script_steps.specs.Members.{and_then, needed as there, known, name_in, object_in, object_if_there, natural_of}
-use Rattle.script_steps.specs.Media.{sound_of, picture_of}
+use Rattle.script_steps.specs.Media.{data_of_init, sound_of, picture_of}
+use Rattle.script_steps.specs.Buffers.{has_buffers, buffered_of}
+use Rattle.script_steps.specs.Ports.{post_of, receive_of}
 use Rattle.script_steps.specs.CopyOptions.{options_for}
 use Rattle.script_steps.specs.declared.words.MediaWord.{MediaWord}
 use Rattle.script_steps.specs.declared.words.MediaWord.TheVariants as medium
 use Rattle.script_steps.specs.declared.references.Needed.TheVariants as needed
 use Rattle.script_steps.specs.References.{unused, variable_if, variable_of, variable_in, bound_on, encoded_data, bound_from}
 
-abbrev pub audio_of : List Step → Data → Result MediaStep (Stop Wrong)
-audio_of before d =
+-- a step whose init names buffers; without a value of the init it is the one that is refused
+abbrev pub made_with : (List ℕ → MediaStep) → List ℕ × Option BufferedInit → MediaStep
+made_with refused b = elim (b.1) [ None ↦ refused b.0 | Some i ↦ media.Buffered b.0 i ]
+
+abbrev pub plain_audio_of : List Step → Data → Result MediaStep (Stop Wrong)
+plain_audio_of before d =
     and_then (name_in (codes "as") d) (λ name. and_then (object_in (codes "init") d) (λ object.
     and_then (sound_of object) (λ init. and_then (unused before name) (λ bind. Ok (media.Audio bind init)))))
 
-abbrev pub frame_of : List Step → Data → Result MediaStep (Stop Wrong)
-frame_of before d =
+abbrev pub audio_of : List Step → Data → Result MediaStep (Stop Wrong)
+audio_of before d =
+    if has_buffers d then and_then (buffered_of holds.Audio before d) (λ b. Ok (made_with (λ bind. media.Audio bind None) b))
+    else plain_audio_of before d
+
+abbrev pub plain_frame_of : List Step → Data → Result MediaStep (Stop Wrong)
+plain_frame_of before d =
     and_then (name_in (codes "as") d) (λ name. and_then (object_in (codes "init") d) (λ object.
     and_then (picture_of object) (λ init. and_then (unused before name) (λ bind. Ok (media.Frame bind init)))))
+
+abbrev pub frame_of : List Step → Data → Result MediaStep (Stop Wrong)
+frame_of before d =
+    if has_buffers d then and_then (buffered_of holds.Frame before d) (λ b. Ok (made_with (λ bind. media.Frame bind None) b))
+    else plain_frame_of before d
+
+-- the bytes of a buffer, as hex text
+abbrev pub buffer_of : List Step → Data → Result MediaStep (Stop Wrong)
+buffer_of before d =
+    and_then (name_in (codes "as") d) (λ name. and_then (there (data_of_init d)) (λ content.
+    and_then (unused before name) (λ bind. Ok (media.Buffer bind content))))
 
 abbrev pub encode_of : List CodecItem → List Step → Data → Result MediaStep (Stop Wrong)
 encode_of codecs before d = and_then (encoded_data codecs before d) (λ g. Ok (media.Encode g.0 g.1))
@@ -69,18 +94,21 @@ copy_of before d =
 abbrev pub size_of : List Step → Data → Result MediaStep (Stop Wrong)
 size_of before d =
     and_then (name_in (codes "of") d) (λ of.
-    and_then (variable_if needed.Medium before of) (λ maybe_variable. and_then (options_in maybe_variable d) (λ options.
+    and_then (variable_if needed.Sized before of) (λ maybe_variable. and_then (options_in maybe_variable d) (λ options.
     and_then (known maybe_variable) (λ found. Ok (media.Size (variable_of of found) options)))))
 
 -- ---- by the word
 
-abbrev pub media_by : List CodecItem → List Step → Data → MediaWord → Result MediaStep (Stop Wrong)
-media_by codecs before d medium.Audio = audio_of before d
-media_by codecs before d medium.Frame = frame_of before d
-media_by codecs before d medium.Encode = encode_of codecs before d
-media_by codecs before d medium.Take = take_of codecs before d
-media_by codecs before d medium.Clone = clone_of before d
-media_by codecs before d medium.Transfer = transfer_of before d
-media_by codecs before d medium.CloseData = close_data_of before d
-media_by codecs before d medium.Copy = copy_of before d
-media_by codecs before d medium.Size = size_of before d
+abbrev pub media_by : List CodecItem → List (Option PortItem) → List Step → Data → MediaWord → Result MediaStep (Stop Wrong)
+media_by codecs ports before d medium.Audio = audio_of before d
+media_by codecs ports before d medium.Frame = frame_of before d
+media_by codecs ports before d medium.Buffer = buffer_of before d
+media_by codecs ports before d medium.Encode = encode_of codecs before d
+media_by codecs ports before d medium.Take = take_of codecs before d
+media_by codecs ports before d medium.Clone = clone_of before d
+media_by codecs ports before d medium.Transfer = transfer_of before d
+media_by codecs ports before d medium.CloseData = close_data_of before d
+media_by codecs ports before d medium.Copy = copy_of before d
+media_by codecs ports before d medium.Size = size_of before d
+media_by codecs ports before d medium.Post = post_of ports before d
+media_by codecs ports before d medium.Receive = receive_of ports before d

@@ -86,6 +86,7 @@ same holds.Chunk = refl
 same holds.Audio = refl
 same holds.Frame = refl
 same holds.Promise = refl
+same holds.Buffer = refl
 
 there : (before : List Step) (right : VariableKind → Bool) (name : List ℕ) (f : FoundVariable) (o : Option FoundVariable) → o ≡ Some f
     → right f.kind ≡ true → (is_found (variable_of name f) o && right f.kind) ≡ true

@@ -10,7 +10,7 @@ use Rattle.script_types.specs.declared.steps.Step.{Step}
 use Rattle.script_types.specs.declared.steps.Variable.{Variable}
 use Rattle.script_types.specs.declared.steps.VariableKind.{VariableKind}
 use Rattle.wc_base.specs.declared.ground.Ground.{Ground}
-use Rattle.script_types.specs.Names.{ground_named, codec_named, variable_named, is_variable_name, is_chunk, is_audio, is_frame, is_medium, is_copied, is_promise}
+use Rattle.script_types.specs.Names.{ground_named, codec_named, variable_named, is_variable_name, is_chunk, is_audio, is_frame, is_medium, is_copied, is_promise, is_buffer, is_sized}
 use Rattle.script_types.specs.Sound.{encodes}
 use Rattle.chunk_files.specs.declared.fault.Stop.{Stop}
 use Rattle.script_types.specs.declared.fault.Wrong.{Wrong}
@@ -28,6 +28,8 @@ is_right needed.Frame = is_frame
 is_right needed.Medium = is_medium
 is_right needed.Copied = is_copied
 is_right needed.Promise = is_promise
+is_right needed.Buffer = is_buffer
+is_right needed.Sized = is_sized
 
 -- a name that no step before defines
 abbrev pub unused : List Step → List ℕ → Result (List ℕ) (Stop Wrong)

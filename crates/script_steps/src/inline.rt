@@ -3,6 +3,7 @@ ghost use Rattle.std.specs.Prelude.{◌≡◌, IfOk};
 ghost use Rattle.json_data.specs.View.{view};
 ghost use Rattle.script_steps.specs.Words.{word_of, media_word_of, word_in, data_of_word};
 
+use crate::media::read_init_data;
 use crate::{MediaWord, StepWord, read_step_data, text_member};
 use bytes::Bytes;
 use json_data::Value;
@@ -15,6 +16,7 @@ fn read_media_word(text: &str) -> Option<MediaWord>
     match text {
         "audio" => Some(MediaWord::Audio),
         "frame" => Some(MediaWord::Frame),
+        "buffer" => Some(MediaWord::Buffer),
         "encode" => Some(MediaWord::Encode),
         "take" => Some(MediaWord::Take),
         "clone" => Some(MediaWord::Clone),
@@ -22,6 +24,8 @@ fn read_media_word(text: &str) -> Option<MediaWord>
         "close-data" => Some(MediaWord::CloseData),
         "copy" => Some(MediaWord::Copy),
         "size" => Some(MediaWord::Size),
+        "post" => Some(MediaWord::Post),
+        "receive" => Some(MediaWord::Receive),
         _ => None,
     }
 }
@@ -51,7 +55,7 @@ pub fn word_member(value: &Value<'_>) -> Option<StepWord>
     read_word(text_member(value, "do")?)
 }
 
-/// The bytes of a step's inline data, where it is hex text: of a chunk, audio data or a frame that is made.
+/// The bytes of a step's inline data, where it is hex text: of a chunk, audio data, a frame or a buffer that is made.
 pub fn read_inline_data(
     alloc: Global,
     word: Option<StepWord>,
@@ -63,6 +67,7 @@ pub fn read_inline_data(
         Some(StepWord::Chunk | StepWord::Media(MediaWord::Audio | MediaWord::Frame)) => {
             read_step_data(alloc, value)
         }
+        Some(StepWord::Media(MediaWord::Buffer)) => read_init_data(alloc, value),
         _ => Ok(None),
     }
 }

@@ -1,6 +1,7 @@
 //! Steps of scripts, read from JSON: what single objects spell, what the names in them name, and the step of each.
 #![tactic(auto)]
 
+mod buffers;
 mod config;
 mod files;
 mod heads;
@@ -12,12 +13,14 @@ mod media_steps;
 mod members;
 mod options;
 mod places;
+mod ports;
 mod references;
 mod source;
 mod steps;
 mod variables;
 mod words;
 
+pub use buffers::{BufferWords, DataWords, has_buffers, read_buffered};
 pub use config::read_config;
 pub use files::Files;
 pub use heads::{find_caller, find_codec, is_caller_name, is_codec_name};
@@ -29,6 +32,7 @@ pub use members::{
     text_member,
 };
 pub use options::read_options;
+pub use ports::{FoundPort, Ports, read_port};
 pub use script_types::{Stop, Wrong, copied};
 pub use source::{SourceWords, read_source};
 pub use steps::read_step;

@@ -25,8 +25,10 @@ fn is_right(needed: Needed, kind: VariableKind) -> bool
         Needed::Audio => kind == VariableKind::Audio,
         Needed::Frame => kind == VariableKind::Frame,
         Needed::Medium => matches!(kind, VariableKind::Audio | VariableKind::Frame),
-        Needed::Copied => kind != VariableKind::Promise,
+        Needed::Copied => !matches!(kind, VariableKind::Promise | VariableKind::Buffer),
         Needed::Promise => kind == VariableKind::Promise,
+        Needed::Buffer => kind == VariableKind::Buffer,
+        Needed::Sized => !matches!(kind, VariableKind::Chunk | VariableKind::Promise),
     }
 }
 

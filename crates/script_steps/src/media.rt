@@ -3,7 +3,8 @@ ghost use Rattle.std.specs.Prelude.{◌≡◌, IfOk, Some, None, option_and_then
 ghost use Rattle.json_data.specs.View.{view};
 ghost use Rattle.serde_json.specs.Find.{get};
 ghost use Rattle.script_steps.specs.Members.{word_of, required};
-ghost use Rattle.script_steps.specs.Media.{data_of_init, data_of_step, timestamp_in, duration_in, content_in, key_of, chunk_of, sample_format_of, sound_of, picture_format_of, picture_of};
+ghost use Rattle.script_steps.specs.Media.{data_of_init, data_of_step, content_in, key_of, chunk_shape_of, chunk_of, sample_format_of, sound_shape_of, sound_of, picture_format_of, picture_shape_of, picture_of, init_shape_of};
+ghost use Rattle.script_steps.specs.Media as spec;
 
 use crate::members::{
     as_text, has, optional_duration_member, read_hex, timestamp_member, u32_member,
@@ -11,7 +12,7 @@ use crate::members::{
 use crate::{Stop, Wrong};
 use bytes::Bytes;
 use json_data::{Value, member};
-use script_types::{ChunkInit, PictureInit, SoundInit};
+use script_types::{ChunkInit, InitShape, PictureInit, SoundInit, VariableKind};
 use std::alloc::Global;
 use wc_base::{NoMemory, PictureFormat, PictureShape, SampleFormat, SoundShape};
 
@@ -20,6 +21,16 @@ pub fn read_step_data(alloc: Global, value: &Value<'_>) -> Result<Option<Bytes>,
     ensures { IfOk result (λ o. o ≡ data_of_step (view value.now)) }
 {
     match member(value, "init").and_then(|init| member(init, "data")) {
+        None => Ok(None),
+        Some(data) => read_hex(alloc, data),
+    }
+}
+
+/// The bytes of the member `data` of an init or of a buffer, where it is hex text.
+pub fn read_init_data(alloc: Global, value: &Value<'_>) -> Result<Option<Bytes>, NoMemory>
+    ensures { IfOk result (λ o. o ≡ data_of_init (view value.now)) }
+{
+    match member(value, "data") {
         None => Ok(None),
         Some(data) => read_hex(alloc, data),
     }
@@ -55,6 +66,43 @@ fn type_member(value: &Value<'_>) -> Result<Option<bool>, Stop<Wrong>>
     }
 }
 
+/// Reads what an init says of its chunk apart from its data. `None` where a rule of WebIDL is broken, and `Shape` where a
+/// member is of another JSON kind.
+fn read_chunk_shape(value: &Value<'_>) -> Result<Option<InitShape>, Stop<Wrong>>
+    ensures { result ≡ chunk_shape_of (view value.now) }
+{
+    let key = type_member(value)?;
+    let timestamp = timestamp_member(value, "timestamp")?;
+    let duration = optional_duration_member(value, "duration")?;
+    match (key, timestamp, duration) {
+        (Some(key), Some(timestamp), Some(duration)) => Ok(Some(InitShape::Chunk {
+            key,
+            timestamp,
+            duration,
+        })),
+        _ => Ok(None),
+    }
+}
+
+fn chunk_with(shape: Option<InitShape>, content: Option<Bytes>) -> Option<ChunkInit>
+    ensures { result ≡ spec.chunk_with shape content }
+{
+    let content = content?;
+    match shape? {
+        InitShape::Chunk {
+            key,
+            timestamp,
+            duration,
+        } => Some(ChunkInit {
+            key,
+            timestamp,
+            duration,
+            content,
+        }),
+        InitShape::Sound(_) | InitShape::Picture(_) => None,
+    }
+}
+
 /// Reads what a chunk is made of; its content was read before. `None` where a rule of WebIDL is broken, and `Shape` where
 /// a member is of another JSON kind.
 pub fn read_chunk_init(
@@ -64,19 +112,9 @@ pub fn read_chunk_init(
     requires { content ≡ data_of_init (view value.now) }
     ensures { result ≡ chunk_of (view value.now) }
 {
-    let key = type_member(value)?;
-    let timestamp = timestamp_member(value, "timestamp")?;
-    let duration = optional_duration_member(value, "duration")?;
+    let shape = read_chunk_shape(value)?;
     let content = content_member(value, content)?;
-    match (key, timestamp, duration, content) {
-        (Some(key), Some(timestamp), Some(duration), Some(content)) => Ok(Some(ChunkInit {
-            key,
-            timestamp,
-            duration,
-            content,
-        })),
-        _ => Ok(None),
-    }
+    Ok(chunk_with(shape, content))
 }
 
 fn read_sample_format(text: &str) -> Option<SampleFormat>
@@ -102,6 +140,30 @@ fn sample_format_member(value: &Value<'_>) -> Result<Option<SampleFormat>, Stop<
     }
 }
 
+/// Reads the shape of audio data. `None` where a rule of WebIDL is broken, and `Shape` where a member is of another JSON
+/// kind.
+fn read_sound_shape(value: &Value<'_>) -> Result<Option<SoundShape>, Stop<Wrong>>
+    ensures { result ≡ sound_shape_of (view value.now) }
+{
+    let format = sample_format_member(value)?;
+    let rate = u32_member(value, "sampleRate")?;
+    let frames = u32_member(value, "numberOfFrames")?;
+    let channels = u32_member(value, "numberOfChannels")?;
+    let timestamp = timestamp_member(value, "timestamp")?;
+    match (format, rate, frames, channels, timestamp) {
+        (Some(format), Some(rate), Some(frames), Some(channels), Some(timestamp)) => {
+            Ok(Some(SoundShape {
+                format,
+                rate,
+                channels,
+                frames,
+                timestamp,
+            }))
+        }
+        _ => Ok(None),
+    }
+}
+
 /// Reads what audio data is made of; its content was read before. `None` where a rule of WebIDL is broken, and `Shape`
 /// where a member is of another JSON kind.
 pub fn read_sound_init(
@@ -111,26 +173,10 @@ pub fn read_sound_init(
     requires { content ≡ data_of_init (view value.now) }
     ensures { result ≡ sound_of (view value.now) }
 {
-    let format = sample_format_member(value)?;
-    let rate = u32_member(value, "sampleRate")?;
-    let frames = u32_member(value, "numberOfFrames")?;
-    let channels = u32_member(value, "numberOfChannels")?;
-    let timestamp = timestamp_member(value, "timestamp")?;
+    let shape = read_sound_shape(value)?;
     let content = content_member(value, content)?;
-    match (format, rate, frames, channels, timestamp, content) {
-        (Some(format), Some(rate), Some(frames), Some(channels), Some(timestamp), Some(content)) =>
-            {
-                Ok(Some(SoundInit {
-                    shape: SoundShape {
-                        format,
-                        rate,
-                        channels,
-                        frames,
-                        timestamp,
-                    },
-                    content,
-                }))
-            }
+    match (shape, content) {
+        (Some(shape), Some(content)) => Ok(Some(SoundInit { shape, content })),
         _ => Ok(None),
     }
 }
@@ -157,6 +203,30 @@ fn picture_format_member(value: &Value<'_>) -> Result<Option<PictureFormat>, Sto
     }
 }
 
+/// Reads the shape of a frame. `None` where a rule of WebIDL is broken, and `Shape` where a member is of another JSON
+/// kind.
+fn read_picture_shape(value: &Value<'_>) -> Result<Option<PictureShape>, Stop<Wrong>>
+    ensures { result ≡ picture_shape_of (view value.now) }
+{
+    let format = picture_format_member(value)?;
+    let width = u32_member(value, "codedWidth")?;
+    let height = u32_member(value, "codedHeight")?;
+    let timestamp = timestamp_member(value, "timestamp")?;
+    let duration = optional_duration_member(value, "duration")?;
+    match (format, width, height, timestamp, duration) {
+        (Some(format), Some(width), Some(height), Some(timestamp), Some(duration)) => {
+            Ok(Some(PictureShape {
+                format,
+                width,
+                height,
+                timestamp,
+                duration,
+            }))
+        }
+        _ => Ok(None),
+    }
+}
+
 /// Reads what a frame is made of; its content was read before. `None` where a rule of WebIDL is broken, and `Shape` where
 /// a member is of another JSON kind.
 pub fn read_picture_init(
@@ -166,26 +236,26 @@ pub fn read_picture_init(
     requires { content ≡ data_of_init (view value.now) }
     ensures { result ≡ picture_of (view value.now) }
 {
-    let format = picture_format_member(value)?;
-    let width = u32_member(value, "codedWidth")?;
-    let height = u32_member(value, "codedHeight")?;
-    let timestamp = timestamp_member(value, "timestamp")?;
-    let duration = optional_duration_member(value, "duration")?;
+    let shape = read_picture_shape(value)?;
     let content = content_member(value, content)?;
-    match (format, width, height, timestamp, duration, content) {
-        (Some(format), Some(width), Some(height), Some(timestamp), Some(duration), Some(content)) =>
-            {
-                Ok(Some(PictureInit {
-                    shape: PictureShape {
-                        format,
-                        width,
-                        height,
-                        timestamp,
-                        duration,
-                    },
-                    content,
-                }))
-            }
+    match (shape, content) {
+        (Some(shape), Some(content)) => Ok(Some(PictureInit { shape, content })),
         _ => Ok(None),
+    }
+}
+
+/// Reads what an init says of what it makes, which is of this kind, apart from its data. `None` where a rule of WebIDL is
+/// broken, and `Shape` where a member is of another JSON kind.
+pub fn read_init_shape(
+    kind: VariableKind,
+    value: &Value<'_>,
+) -> Result<Option<InitShape>, Stop<Wrong>>
+    ensures { result ≡ init_shape_of kind (view value.now) }
+{
+    match kind {
+        VariableKind::Chunk => read_chunk_shape(value),
+        VariableKind::Audio => Ok(read_sound_shape(value)?.map(InitShape::Sound)),
+        VariableKind::Frame => Ok(read_picture_shape(value)?.map(InitShape::Picture)),
+        VariableKind::Promise | VariableKind::Buffer => Ok(None),
     }
 }

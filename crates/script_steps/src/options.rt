@@ -162,8 +162,8 @@ fn read_frame_options(
     }
 }
 
-/// Reads the options of a copy of what is of this kind. Absent options are an empty object; those of a chunk have no
-/// members that are looked at. `Shape` where they are no object, or a member is of another JSON kind.
+/// Reads the options of a copy of what is of this kind. Absent options are an empty object; those of a chunk or a buffer
+/// have no members that are looked at. `Shape` where they are no object, or a member is of another JSON kind.
 pub fn read_options(
     alloc: Global,
     kind: VariableKind,
@@ -175,6 +175,6 @@ pub fn read_options(
     match kind {
         VariableKind::Audio => Ok(Options::Audio(read_audio_options(object)?)),
         VariableKind::Frame => Ok(Options::Frame(read_frame_options(alloc, object)?)),
-        VariableKind::Chunk | VariableKind::Promise => Ok(Options::Nothing),
+        VariableKind::Chunk | VariableKind::Promise | VariableKind::Buffer => Ok(Options::Nothing),
     }
 }

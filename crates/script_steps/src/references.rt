@@ -1,6 +1,7 @@
 // What a step needs a variable to hold.
 
-/// What a step needs a variable to hold. A medium is audio data or a frame, and what is copied a medium or a chunk.
+/// What a step needs a variable to hold. A medium is audio data or a frame, what is copied a medium or a chunk, and what has
+/// a size a medium or a buffer.
 #[derive(Clone, Copy, Debug, PartialEq, Eq)]
 pub enum Needed {
     Chunk,
@@ -9,4 +10,6 @@ pub enum Needed {
     Medium,
     Copied,
     Promise,
+    Buffer,
+    Sized,
 }

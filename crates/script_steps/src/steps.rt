@@ -6,18 +6,19 @@ ghost use Rattle.script_steps.specs.Words.{data_of_word};
 ghost use Rattle.script_steps.specs.Steps.{configure_of, numbered, chunk_step_of, step_by};
 ghost use Rattle.script_types.specs.Reading.{Gives, GivesAs};
 
+use crate::buffers::{has_buffers, read_buffered};
 use crate::lookups::{
     read_bound_on, read_decoder_chunk, read_ground_on, read_on, read_unused, read_variable,
 };
 use crate::media_steps::read_media_step;
 use crate::references::Needed;
 use crate::{
-    Files, SourceWords, StepWord, Stop, Variables, Wrong, find_codec, name_member, object_member,
-    read_config, read_source,
+    Files, Ports, SourceWords, StepWord, Stop, Variables, Wrong, find_codec, has, name_member,
+    object_member, read_config, read_source,
 };
 use bytes::Bytes;
 use json_data::Value;
-use script_types::{ChunkSource, CodecItem, Step};
+use script_types::{ChunkSource, CodecItem, MediaStep, Step, VariableKind};
 use std::alloc::Global;
 use wc_base::NoMemory;
 
@@ -64,11 +65,22 @@ fn read_chunk_step(
     content: Option<Bytes>,
 ) -> Result<Step, Stop<Wrong>>
     requires files { length files.old ≤ 100000 }
+    requires steps { length before.now ≤ 100000 }
     requires content { content ≡ data_of_step (view value.now) }
     ensures given { GivesAs
         (λ s. (s, files.new)) result (chunk_step_of files.old before.now (view value.now)) }
     ensures kept { OnErr result (files.new ≡ files.old) }
 {
+    if has_buffers(value) && !has(value, "file") && !has(value, "index") {
+        let (bind, init) = read_buffered(alloc, VariableKind::Chunk, before, value, content)?;
+        return Ok(match init {
+            Some(init) => Step::Media(MediaStep::Buffered { bind, init }),
+            None => Step::Chunk {
+                bind,
+                source: ChunkSource::Init(None),
+            },
+        });
+    }
     let name = name_member(value, "as")?;
     let source = read_source(alloc, value, content)?;
     let bind = read_unused(alloc, before, name)?;
@@ -84,6 +96,7 @@ fn read_chunk_step(
 pub fn read_step(
     alloc: Global,
     codecs: &[CodecItem],
+    ports: &Ports,
     files: &mut Files,
     before: &Variables,
     value: &Value<'_>,
@@ -96,7 +109,7 @@ pub fn read_step(
     requires content { content ≡ data_of_word (Some word) (view value.now) }
     ensures given { GivesAs
         (λ s. (s, files.new)) result
-        (step_by codecs.now files.old before.now (view value.now) word) }
+        (step_by codecs.now ports.now files.old before.now (view value.now) word) }
     ensures kept { OnErr result (files.new ≡ files.old) }
 {
     match word {
@@ -133,7 +146,7 @@ pub fn read_step(
             Ok(Step::Ground { on, to })
         }
         StepWord::Media(word) => Ok(Step::Media(read_media_step(
-            alloc, codecs, before, value, word, content,
+            alloc, codecs, ports, before, value, word, content,
         )?)),
     }
 }

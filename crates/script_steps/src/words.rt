@@ -5,6 +5,7 @@
 pub enum MediaWord {
     Audio,
     Frame,
+    Buffer,
     Encode,
     Take,
     Clone,
@@ -12,6 +13,8 @@ pub enum MediaWord {
     CloseData,
     Copy,
     Size,
+    Post,
+    Receive,
 }
 
 /// What a step does.

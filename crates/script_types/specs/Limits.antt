@@ -4,12 +4,15 @@ use Rattle.script_types.specs.declared.fault.Counted.{Counted}
 use Rattle.script_types.specs.declared.fault.Counted.TheVariants as counted
 use Rattle.script_types.specs.Sound.{most_codecs, most_callers, most_steps, most_order, most_chunk, most_media}
 
--- bytes of a script file, and of a chunk file
+-- bytes of a script file, of a chunk file, and of a report
 abbrev pub most_script : ℕ
 most_script = 16777216
 
 abbrev pub most_file : ℕ
 most_file = 268435456
+
+abbrev pub most_report : ℕ
+most_report = 268435456
 
 abbrev pub limit_of : Counted → ℕ
 limit_of counted.Script = most_script
@@ -20,3 +23,4 @@ limit_of counted.Order = most_order
 limit_of counted.Chunk = most_chunk
 limit_of counted.File = most_file
 limit_of counted.Media = most_media
+limit_of counted.Report = most_report

@@ -7,12 +7,16 @@ use Rattle.wc_base.specs.declared.ground.Ground.{Ground}
 use Rattle.wc_base.specs.declared.ground.Ground.TheVariants as grounds
 use Rattle.script_types.specs.declared.script.CodecItem.{CodecItem}
 use Rattle.script_types.specs.declared.script.CallerItem.{CallerItem}
+use Rattle.script_types.specs.declared.script.PortKind.{PortKind}
+use Rattle.script_types.specs.declared.script.PortKind.TheVariants as port
 use Rattle.script_types.specs.declared.found.FoundCodec.{FoundCodec}
 use Rattle.script_types.specs.declared.found.FoundVariable.{FoundVariable}
 use Rattle.script_types.specs.declared.steps.Step.{Step}
 use Rattle.script_types.specs.declared.steps.Step.TheVariants as step
 use Rattle.script_types.specs.declared.steps.MediaStep.{MediaStep}
 use Rattle.script_types.specs.declared.steps.MediaStep.TheVariants as media
+use Rattle.script_types.specs.declared.steps.InitShape.{InitShape}
+use Rattle.script_types.specs.declared.steps.InitShape.TheVariants as init_shape
 use Rattle.script_types.specs.declared.steps.Variable.{Variable}
 use Rattle.script_types.specs.declared.steps.VariableKind.{VariableKind}
 use Rattle.script_types.specs.declared.steps.VariableKind.TheVariants as holds
@@ -78,6 +82,17 @@ inputs_of kind.AudioDecoder = holds.Chunk
 inputs_of kind.AudioEncoder = holds.Audio
 inputs_of kind.VideoDecoder = holds.Chunk
 inputs_of kind.VideoEncoder = holds.Frame
+
+-- ---- ports
+
+-- what the ports that a word names are of
+abbrev pub port_named : List ℕ → Option PortKind
+port_named w = if bytes_eq w (codes "audio") then Some port.Audio else if bytes_eq w (codes "frame") then Some port.Frame else None
+
+-- what is posted at a port of this kind
+abbrev pub posted_at : PortKind → VariableKind
+posted_at port.Audio = holds.Audio
+posted_at port.Frame = holds.Frame
 
 -- ---- codecs and callers
 
@@ -146,10 +161,18 @@ IsFlush _ = ⊥
 
 -- ---- variables
 
+-- what an init of this shape makes
+abbrev pub made_of : InitShape → VariableKind
+made_of (init_shape.Chunk key timestamp duration) = holds.Chunk
+made_of (init_shape.Sound shape) = holds.Audio
+made_of (init_shape.Picture shape) = holds.Frame
+
 -- the variable that a step defines, and what it holds
 abbrev pub binds_media : MediaStep → Option (List ℕ × VariableKind)
 binds_media (media.Audio bind init) = Some (bind, holds.Audio)
 binds_media (media.Frame bind init) = Some (bind, holds.Frame)
+binds_media (media.Buffer bind content) = Some (bind, holds.Buffer)
+binds_media (media.Buffered bind init) = Some (bind, made_of init.shape)
 binds_media (media.Encode on content) = None
 binds_media (media.Take on bind kind) = Some (bind, kind)
 binds_media (media.Clone of bind) = Some (bind, of.kind)
@@ -157,6 +180,8 @@ binds_media (media.Transfer of bind) = Some (bind, of.kind)
 binds_media (media.CloseData of) = None
 binds_media (media.Copy of options size) = None
 binds_media (media.Size of options) = None
+binds_media (media.Post to content) = None
+binds_media (media.Receive from bind kind) = Some (bind, kind)
 
 abbrev pub binds : Step → Option (List ℕ × VariableKind)
 binds (step.Configure on config) = None
@@ -218,7 +243,19 @@ is_medium holds.Audio = true
 is_medium holds.Frame = true
 is_medium _ = false
 
+abbrev pub is_buffer : VariableKind → Bool
+is_buffer holds.Buffer = true
+is_buffer _ = false
+
 -- a medium or a chunk
 abbrev pub is_copied : VariableKind → Bool
 is_copied holds.Promise = false
+is_copied holds.Buffer = false
 is_copied _ = true
+
+-- a medium or a buffer
+abbrev pub is_sized : VariableKind → Bool
+is_sized holds.Audio = true
+is_sized holds.Frame = true
+is_sized holds.Buffer = true
+is_sized _ = false

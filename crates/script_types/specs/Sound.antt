@@ -9,6 +9,7 @@ use Rattle.wc_config.specs.declared.kind.Kind.{Kind}
 use Rattle.wc_config.specs.declared.kind.Kind.TheVariants as kind
 use Rattle.script_types.specs.declared.script.CodecItem.{CodecItem}
 use Rattle.script_types.specs.declared.script.CallerItem.{CallerItem}
+use Rattle.script_types.specs.declared.script.PortItem.{PortItem}
 use Rattle.script_types.specs.declared.script.OrderItem.{OrderItem}
 use Rattle.script_types.specs.declared.script.OrderItem.TheVariants as order
 use Rattle.script_types.specs.declared.script.ScriptData.{ScriptData}
@@ -19,6 +20,9 @@ use Rattle.script_types.specs.declared.steps.ChunkSource.{ChunkSource}
 use Rattle.script_types.specs.declared.steps.ChunkSource.TheVariants as source
 use Rattle.script_types.specs.declared.steps.SoundInit.{SoundInit}
 use Rattle.script_types.specs.declared.steps.PictureInit.{PictureInit}
+use Rattle.script_types.specs.declared.steps.BufferedInit.{BufferedInit}
+use Rattle.script_types.specs.declared.steps.InitData.{InitData}
+use Rattle.script_types.specs.declared.steps.InitData.TheVariants as init_data
 use Rattle.script_types.specs.declared.steps.Variable.{Variable}
 use Rattle.script_types.specs.declared.steps.VariableKind.{VariableKind}
 use Rattle.script_types.specs.declared.steps.VariableKind.TheVariants as holds
@@ -27,7 +31,7 @@ use Rattle.script_types.specs.declared.steps.MediaStep.TheVariants as media
 use Rattle.script_types.specs.declared.steps.Step.{Step}
 use Rattle.script_types.specs.declared.found.FoundVariable.{FoundVariable}
 use Rattle.script_types.specs.declared.steps.Step.TheVariants as step
-use Rattle.script_types.specs.Names.{is_name, decodes, inputs_of, outputs_of, is_codec_name, is_caller_name, variable_named, is_variable_name, is_chunk, is_promise, is_medium, is_copied}
+use Rattle.script_types.specs.Names.{is_name, decodes, inputs_of, outputs_of, is_codec_name, is_caller_name, variable_named, is_variable_name, is_chunk, is_promise, is_medium, is_buffer, is_copied, is_sized, posted_at}
 
 -- ---- limits
 
@@ -42,6 +46,13 @@ most_steps = 100000
 
 abbrev pub most_order : ℕ
 most_order = 1000000
+
+abbrev pub most_ports : ℕ
+most_ports = 64
+
+-- buffers that one init lists
+abbrev pub most_transfer : ℕ
+most_transfer = 16
 
 -- bytes of one inline data, and of all
 abbrev pub most_chunk : ℕ
@@ -82,6 +93,7 @@ same_kind holds.Chunk holds.Chunk = true
 same_kind holds.Audio holds.Audio = true
 same_kind holds.Frame holds.Frame = true
 same_kind holds.Promise holds.Promise = true
+same_kind holds.Buffer holds.Buffer = true
 same_kind _ _ = false
 
 abbrev pub is_found : Variable → Option FoundVariable → Bool
@@ -112,6 +124,7 @@ abbrev pub are_options_of : Options → VariableKind → Bool
 are_options_of (options.Audio o) holds.Audio = true
 are_options_of (options.Frame o) holds.Frame = true
 are_options_of options.Nothing holds.Chunk = true
+are_options_of options.Nothing holds.Buffer = true
 are_options_of _ _ = false
 
 -- a codec of this kind gives outputs of this kind
@@ -122,16 +135,29 @@ gives v k = same_kind (outputs_of k) v
 abbrev pub takes : VariableKind → Kind → Bool
 takes v k = encodes k && same_kind (inputs_of k) v
 
+-- the buffers that an init names are there, and it does not list too many
+abbrev pub is_sound_data : List Step → InitData → Bool
+is_sound_data before (init_data.Hex bytes) = true
+is_sound_data before (init_data.Buffer v) = is_variable before is_buffer v
+
+abbrev pub is_sound_init : List Step → BufferedInit → Bool
+is_sound_init before i =
+    is_sound_data before i.content && (nat_le (length i.transfer) most_transfer && list_all (is_variable before is_buffer) i.transfer)
+
 abbrev pub is_sound_media : List CodecItem → List Step → MediaStep → Bool
 is_sound_media codecs before (media.Audio bind init) = is_free before bind
 is_sound_media codecs before (media.Frame bind init) = is_free before bind
+is_sound_media codecs before (media.Buffer bind content) = is_free before bind
+is_sound_media codecs before (media.Buffered bind init) = is_free before bind && is_sound_init before init
 is_sound_media codecs before (media.Encode on content) = is_codec codecs (takes content.kind) on && is_variable before is_medium content
 is_sound_media codecs before (media.Take on bind kind) = is_codec codecs (gives kind) on && is_free before bind
 is_sound_media codecs before (media.Clone of bind) = is_variable before is_medium of && is_free before bind
 is_sound_media codecs before (media.Transfer of bind) = is_variable before is_medium of && is_free before bind
 is_sound_media codecs before (media.CloseData of) = is_variable before is_medium of
 is_sound_media codecs before (media.Copy of options size) = is_variable before is_copied of && (are_options_of options of.kind && nat_le size most_chunk)
-is_sound_media codecs before (media.Size of options) = is_variable before is_medium of && are_options_of options of.kind
+is_sound_media codecs before (media.Size of options) = is_variable before is_sized of && are_options_of options of.kind
+is_sound_media codecs before (media.Post to content) = is_variable before is_medium content
+is_sound_media codecs before (media.Receive from bind kind) = is_free before bind && is_medium kind
 
 -- a step, after those before it
 abbrev pub is_sound_step : List CodecItem → List Step → Step → Bool
@@ -179,7 +205,13 @@ abbrev pub bytes_of_picture : Option PictureInit → ℕ
 bytes_of_picture None = 0
 bytes_of_picture (Some i) = length i.content
 
+abbrev pub bytes_of_data : InitData → ℕ
+bytes_of_data (init_data.Hex bytes) = length bytes
+bytes_of_data (init_data.Buffer v) = 0
+
 abbrev pub bytes_of_media : MediaStep → ℕ
+bytes_of_media (media.Buffer bind content) = length content
+bytes_of_media (media.Buffered bind init) = bytes_of_data init.content
 bytes_of_media (media.Audio bind init) = bytes_of_sound init
 bytes_of_media (media.Frame bind init) = bytes_of_picture init
 bytes_of_media _ = 0
@@ -230,6 +262,34 @@ are_apart before (t ∷ ts) = not (list_any (λ x. bytes_eq x t) before) && are_
 abbrev pub are_sound_files : List (List ℕ) → List CallerItem → Bool
 are_sound_files files callers = are_apart [] files && is_count (length files) (files_in 0 callers)
 
+-- ---- ports
+
+-- a port, after the codecs, the callers and the ports before it
+abbrev pub is_port_name : List PortItem → List ℕ → Bool
+is_port_name ports name = list_any (λ p. bytes_eq p.name name) ports
+
+abbrev pub is_sound_port : List CodecItem → List CallerItem → List PortItem → PortItem → Bool
+is_sound_port codecs callers before p =
+    is_name p.name && not (is_codec_name codecs p.name || (is_caller_name callers p.name || is_port_name before p.name))
+
+abbrev pub are_sound_ports : List CodecItem → List CallerItem → List PortItem → List PortItem → Bool
+are_sound_ports codecs callers before [] = true
+are_sound_ports codecs callers before (p ∷ ps) = is_sound_port codecs callers before p && are_sound_ports codecs callers (before ++ p ∷ []) ps
+
+-- the port of this number is there, and of this kind
+abbrev pub is_port_of : VariableKind → Option PortItem → Bool
+is_port_of kind None = false
+is_port_of kind (Some p) = same_kind (posted_at p.of) kind
+
+-- a step that posts or receives does so at a port of its kind
+abbrev pub is_sound_use : List PortItem → Step → Bool
+is_sound_use ports (step.Media (media.Post to content)) = is_port_of content.kind (slice_get ports to)
+is_sound_use ports (step.Media (media.Receive from bind kind)) = is_port_of kind (slice_get ports from)
+is_sound_use ports _ = true
+
+abbrev pub are_sound_uses : List PortItem → List CallerItem → Bool
+are_sound_uses ports callers = list_all (λ c. list_all (is_sound_use ports) c.steps) callers
+
 -- ---- order
 
 -- the item names one of so many codecs or callers
@@ -266,4 +326,5 @@ is_small_media inline callers = list_all are_small callers && (nat_le (sum_by by
 abbrev pub is_sound : ScriptData → Bool
 is_sound s =
     are_sound_codecs [] s.codecs && (are_sound_callers s.codecs [] s.callers && (are_few s.codecs s.callers
-    && (is_small_media s.inline s.callers && (are_sound_files s.chunk_files s.callers && is_sound_order (length s.codecs) s.callers s.order))))
+    && (is_small_media s.inline s.callers && (are_sound_files s.chunk_files s.callers && (is_sound_order (length s.codecs) s.callers s.order
+    && (nat_le (length s.ports) most_ports && (are_sound_ports s.codecs s.callers [] s.ports && are_sound_uses s.ports s.callers)))))))

@@ -1,5 +1,5 @@
 -- What is known of a script in which nothing is at fault: of its codecs, of each step, and of the items of its order.
-use Rattle.std.proofs.Common.{ℕ, zero, suc, ◌≡◌, ◌≤◌, ◌<◌, ◌&&◌, ◌==◌, Bool, true, false, List, [], ◌∷◌, ◌++◌, take, length, append_assoc, append-nil, Option, Some, None, refl, ap, sym, subst, ◌∙◌, arith}
+use Rattle.std.proofs.Common.{ℕ, zero, suc, nat_le, ◌≡◌, ◌≤◌, ◌<◌, ◌&&◌, ◌==◌, Bool, true, false, List, [], ◌∷◌, ◌++◌, take, length, append_assoc, append-nil, Option, Some, None, refl, ap, sym, subst, ◌∙◌, arith}
 use Rattle.std.specs.Prelude.{IfSome, option_and_then}
 use Rattle.std.specs.List.{list_all, slice_get, sum_by}
 use Rattle.std.proofs.lemmas.Bool.{and_parts, eqb-true, leb-true}
@@ -9,18 +9,21 @@ use Rattle.wc_config.specs.declared.kind.Kind.{Kind}
 use Rattle.wc_config.specs.declared.kind.Kind.TheVariants as kind
 use Rattle.script_types.specs.declared.script.CodecItem.{CodecItem}
 use Rattle.script_types.specs.declared.script.CallerItem.{CallerItem}
+use Rattle.script_types.specs.declared.script.PortItem.{PortItem}
 use Rattle.script_types.specs.declared.script.OrderItem.{OrderItem}
 use Rattle.script_types.specs.declared.script.ScriptData.{ScriptData}
 use Rattle.script_types.specs.declared.found.FoundVariable.{FoundVariable}
 use Rattle.script_types.specs.declared.steps.MediaStep.{MediaStep}
 use Rattle.script_types.specs.declared.steps.MediaStep.TheVariants as media
+use Rattle.script_types.specs.declared.steps.InitShape.{InitShape}
+use Rattle.script_types.specs.declared.steps.InitShape.TheVariants as init_shape
 use Rattle.script_types.specs.declared.steps.Variable.{Variable}
 use Rattle.script_types.specs.declared.steps.VariableKind.{VariableKind}
 use Rattle.script_types.specs.declared.steps.VariableKind.TheVariants as holds
 use Rattle.script_types.specs.declared.steps.Step.{Step}
 use Rattle.script_types.specs.declared.steps.Step.TheVariants as step
-use Rattle.script_types.specs.Names.{decodes, names_codec, called, taken_from, looked_at, binds, variable_at, variable_named, is_promise, is_medium}
-use Rattle.script_types.specs.Sound.{is_sound, is_sound_codec, are_sound_codecs, is_codec, is_codec_kind, any_kind, takes, same_kind, suits, gives, is_found, is_variable, is_sound_step, are_sound_steps, are_sound_callers, are_few, is_sound_item, is_sound_order, is_small_media, are_sound_files}
+use Rattle.script_types.specs.Names.{decodes, names_codec, called, taken_from, looked_at, binds, variable_at, variable_named, is_promise, is_medium, made_of, posted_at}
+use Rattle.script_types.specs.Sound.{is_sound, is_sound_codec, are_sound_codecs, is_codec, is_codec_kind, any_kind, takes, same_kind, suits, gives, is_found, is_variable, is_sound_step, are_sound_steps, are_sound_callers, are_few, is_sound_item, is_sound_order, is_small_media, are_sound_files, most_ports, are_sound_ports, are_sound_uses, is_sound_use, is_port_of}
 
 first : (a b : Bool) → (a && b) ≡ true → a ≡ true
 first a b h = (and_parts a b h).0
@@ -43,6 +46,9 @@ pub record Parts (s : ScriptData) : Type 0 where
   pub small : is_small_media s.inline s.callers ≡ true
   pub files : are_sound_files s.chunk_files s.callers ≡ true
   pub order : is_sound_order (length s.codecs) s.callers s.order ≡ true
+  pub few_ports : nat_le (length s.ports) most_ports ≡ true
+  pub ports : are_sound_ports s.codecs s.callers [] s.ports ≡ true
+  pub uses : are_sound_uses s.ports s.callers ≡ true
 
 pub parts_of : (s : ScriptData) → is_sound s ≡ true → Parts s
 parts_of s h =
@@ -51,7 +57,10 @@ parts_of s h =
     let c = and_parts (are_few s.codecs s.callers) _ b.1 in
     let d = and_parts (is_small_media s.inline s.callers) _ c.1 in
     let e = and_parts (are_sound_files s.chunk_files s.callers) _ d.1 in
-    record { codecs = a.0; callers = b.0; few = c.0; small = d.0; files = e.0; order = e.1 }
+    let f = and_parts (is_sound_order (length s.codecs) s.callers s.order) _ e.1 in
+    let g = and_parts (nat_le (length s.ports) most_ports) _ f.1 in
+    let p = and_parts (are_sound_ports s.codecs s.callers [] s.ports) _ g.1 in
+    record { codecs = a.0; callers = b.0; few = c.0; small = d.0; files = e.0; order = f.0; few_ports = g.0; ports = p.0; uses = p.1 }
 
 -- ---- codecs
 
@@ -147,18 +156,8 @@ kinds_same holds.Chunk holds.Chunk h = refl
 kinds_same holds.Audio holds.Audio h = refl
 kinds_same holds.Frame holds.Frame h = refl
 kinds_same holds.Promise holds.Promise h = refl
-kinds_same holds.Chunk holds.Audio h = absurd cc
-kinds_same holds.Chunk holds.Frame h = absurd cc
-kinds_same holds.Chunk holds.Promise h = absurd cc
-kinds_same holds.Audio holds.Chunk h = absurd cc
-kinds_same holds.Audio holds.Frame h = absurd cc
-kinds_same holds.Audio holds.Promise h = absurd cc
-kinds_same holds.Frame holds.Chunk h = absurd cc
-kinds_same holds.Frame holds.Audio h = absurd cc
-kinds_same holds.Frame holds.Promise h = absurd cc
-kinds_same holds.Promise holds.Chunk h = absurd cc
-kinds_same holds.Promise holds.Audio h = absurd cc
-kinds_same holds.Promise holds.Frame h = absurd cc
+kinds_same holds.Buffer holds.Buffer h = refl
+kinds_same a b h = absurd cc
 
 -- The step that defines what was found: it stands at the number that was found, and defines a variable of that kind.
 pub record Defines (steps : List Step) (number : ℕ) (holds : VariableKind) : Type 0 where
@@ -211,6 +210,7 @@ promise_kind holds.Promise h = refl
 promise_kind holds.Chunk h = absurd cc
 promise_kind holds.Audio h = absurd cc
 promise_kind holds.Frame h = absurd cc
+promise_kind holds.Buffer h = absurd cc
 
 -- a sound step looks at a variable that is there, and is a promise
 pub promise_there : (codecs : List CodecItem) (before : List Step) (x : Step) (v : Variable) → is_sound_step codecs before x ≡ true → looked_at x ≡ Some v → is_variable before is_promise v ≡ true
@@ -226,6 +226,7 @@ no_promise holds.Audio h is = absurd cc
 no_promise holds.Frame h is = absurd cc
 no_promise holds.Chunk h is = absurd cc
 no_promise holds.Promise h is = absurd cc
+no_promise holds.Buffer h is = absurd cc
 
 no_output : (v : VariableKind) (k : Kind) → gives v k ≡ true → v ≡ holds.Promise → ⊥
 no_output holds.Promise kind.AudioDecoder h is = absurd cc
@@ -235,10 +236,18 @@ no_output holds.Promise kind.VideoEncoder h is = absurd cc
 no_output holds.Chunk k h is = absurd cc
 no_output holds.Audio k h is = absurd cc
 no_output holds.Frame k h is = absurd cc
+no_output holds.Buffer k h is = absurd cc
+
+no_made : (i : InitShape) → made_of i ≡ holds.Promise → ⊥
+no_made (init_shape.Chunk key timestamp duration) is = absurd cc
+no_made (init_shape.Sound shape) is = absurd cc
+no_made (init_shape.Picture shape) is = absurd cc
 
 media_promise : (codecs : List CodecItem) (before : List Step) (y : MediaStep) (name : List ℕ) → is_sound_step codecs before (step.Media y) ≡ true → binds (step.Media y) ≡ Some (name, holds.Promise) → ⊥
 media_promise codecs before (media.Audio bind init) name h is = apart holds.Audio refl (some_pair_parts bind name holds.Audio holds.Promise is).1
 media_promise codecs before (media.Frame bind init) name h is = apart holds.Frame refl (some_pair_parts bind name holds.Frame holds.Promise is).1
+media_promise codecs before (media.Buffer bind content) name h is = apart holds.Buffer refl (some_pair_parts bind name holds.Buffer holds.Promise is).1
+media_promise codecs before (media.Buffered bind init) name h is = no_made init.shape (some_pair_parts bind name (made_of init.shape) holds.Promise is).1
 media_promise codecs before (media.Encode on content) name h is = absurd cc
 media_promise codecs before (media.Take on bind k) name h is = no_output k _ (codec_there codecs (gives k) on (first _ _ h)).2 (some_pair_parts bind name k holds.Promise is).1
 media_promise codecs before (media.Clone of bind) name h is = no_promise of.kind (variable_is before is_medium of (first _ _ h)).1 (some_pair_parts bind name of.kind holds.Promise is).1
@@ -246,6 +255,8 @@ media_promise codecs before (media.Transfer of bind) name h is = no_promise of.k
 media_promise codecs before (media.CloseData of) name h is = absurd cc
 media_promise codecs before (media.Copy of options size) name h is = absurd cc
 media_promise codecs before (media.Size of options) name h is = absurd cc
+media_promise codecs before (media.Post to content) name h is = absurd cc
+media_promise codecs before (media.Receive from bind kind) name h is = no_promise kind (second _ _ h) (some_pair_parts bind name kind holds.Promise is).1
 
 -- only a flush defines a promise
 pub promise_of_flush : (codecs : List CodecItem) (before : List Step) (y : Step) (name : List ℕ) → is_sound_step codecs before y ≡ true → binds y ≡ Some (name, holds.Promise) → (on : ℕ) × (y ≡ step.Flush on name)
@@ -260,6 +271,21 @@ promise_of_flush codecs before (step.Close on) name h is = absurd cc
 promise_of_flush codecs before (step.State on) name h is = absurd cc
 promise_of_flush codecs before (step.Ground on to) name h is = absurd cc
 promise_of_flush codecs before (step.Media y) name h is = absurd (media_promise codecs before y name h is)
+
+-- ---- ports
+
+-- a port is there, of this kind
+port_stands : (kind : VariableKind) (o : Option PortItem) → is_port_of kind o ≡ true → (p : PortItem) × (o ≡ Some p) × (posted_at p.of ≡ kind)
+port_stands kind None h = absurd cc
+port_stands kind (Some p) h = (p, refl, kinds_same (posted_at p.of) kind h)
+
+-- each step that posts or receives does so at a port that is there
+pub use_at : (s : ScriptData) (i j : ℕ) (c : CallerItem) (x : Step) → is_sound s ≡ true → slice_get s.callers i ≡ Some c → slice_get c.steps j ≡ Some x → is_sound_use s.ports x ≡ true
+use_at s i j c x h is at =
+    all_at (is_sound_use s.ports) c.steps j x (all_at (λ (d : CallerItem). list_all (is_sound_use s.ports) d.steps) s.callers i c (parts_of s h).uses is) at
+
+pub port_there : (s : ScriptData) (kind : VariableKind) (n : ℕ) → is_port_of kind (slice_get s.ports n) ≡ true → (p : PortItem) × (slice_get s.ports n ≡ Some p) × (posted_at p.of ≡ kind)
+port_there s kind n h = port_stands kind (slice_get s.ports n) h
 
 -- ---- the order
 

@@ -31,8 +31,8 @@ impl fmt::Display for Place {
 }
 
 /// What is counted against a limit: the bytes of a script file, its codecs, callers, steps of all callers and order
-/// items, the bytes of one chunk or one inline data, those of one chunk file, and those of all chunks and all inline
-/// data.
+/// items, the bytes of one chunk or one inline data, those of one chunk file, those of all chunks and all inline data,
+/// and those of a report that is checked.
 #[derive(Clone, Copy, Debug, PartialEq, Eq)]
 pub enum Counted {
     Script,
@@ -43,6 +43,7 @@ pub enum Counted {
     Chunk,
     File,
     Media,
+    Report,
 }
 
 /// What is wrong at one place of a script (our choice; WebIDL's own faults are no faults of the script).

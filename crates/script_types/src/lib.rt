@@ -14,11 +14,15 @@ pub use chunk_files::Stop;
 pub use fault::{Counted, Fault, Place, Wrong};
 pub use found::{FoundCodec, FoundVariable};
 pub use limits::limit_of;
-pub use names::{decodes, ground_named, ground_text, inputs_of, kind_named, kind_text, outputs_of};
+pub use names::{
+    decodes, ground_named, ground_text, inputs_of, kind_named, kind_text, outputs_of, port_named,
+    posted_at,
+};
 pub use options::{AudioOptions, FormatWord, FrameOptions, LayoutWords, Options, RectWords};
-pub use script::{CallerItem, CodecItem, OrderItem, Script, ScriptData};
+pub use script::{CallerItem, CodecItem, OrderItem, PortItem, PortKind, Script, ScriptData};
 pub use steps::{
-    ChunkInit, ChunkSource, MediaStep, PictureInit, SoundInit, Step, Variable, VariableKind,
+    BufferedInit, ChunkInit, ChunkSource, InitData, InitShape, MediaStep, PictureInit, SoundInit,
+    Step, Variable, VariableKind,
 };
 pub use texts::{copied, unread};
 pub use wc_config::Kind;

@@ -17,5 +17,6 @@ pub fn limit_of(what: Counted) -> usize
         Counted::Chunk => 16_777_216,
         Counted::File => 268_435_456,
         Counted::Media => 268_435_456,
+        Counted::Report => 268_435_456,
     }
 }

@@ -4,7 +4,7 @@ ghost use Rattle.std.specs.List.{find};
 ghost use Rattle.script_types.specs.Names.{binds, binds_media};
 ghost use Rattle.script_types.specs.Names as spec;
 
-use crate::{Kind, MediaStep, Step, VariableKind};
+use crate::{InitShape, Kind, MediaStep, PortKind, Step, VariableKind};
 use wc_base::Ground;
 
 /// The word of a kind, in scripts and in reports.
@@ -102,13 +102,52 @@ pub fn inputs_of(kind: Kind) -> VariableKind
     }
 }
 
+/// What the ports that this word names are of.
+pub fn port_named(word: &str) -> Option<PortKind>
+    ensures { result ≡ spec.port_named word.now }
+{
+    match word {
+        "audio" => Some(PortKind::Audio),
+        "frame" => Some(PortKind::Frame),
+        _ => None,
+    }
+}
+
+/// What is posted at a port of this kind.
+pub fn posted_at(of: PortKind) -> VariableKind
+    ensures { result ≡ spec.posted_at of }
+{
+    match of {
+        PortKind::Audio => VariableKind::Audio,
+        PortKind::Frame => VariableKind::Frame,
+    }
+}
+
+/// What an init of this shape makes.
+fn made_of(shape: InitShape) -> VariableKind
+    ensures { result ≡ spec.made_of shape }
+{
+    match shape {
+        InitShape::Chunk { .. } => VariableKind::Chunk,
+        InitShape::Sound(_) => VariableKind::Audio,
+        InitShape::Picture(_) => VariableKind::Frame,
+    }
+}
+
 fn bound_media(step: &MediaStep) -> Option<(&str, VariableKind)>
     ensures { option_map (λ b. (b.0.now, b.1)) result ≡ binds_media step.now }
 {
     match step {
         MediaStep::Audio { bind, init: _ } => Some((bind.as_str(), VariableKind::Audio)),
         MediaStep::Frame { bind, init: _ } => Some((bind.as_str(), VariableKind::Frame)),
+        MediaStep::Buffer { bind, content: _ } => Some((bind.as_str(), VariableKind::Buffer)),
+        MediaStep::Buffered { bind, init } => Some((bind.as_str(), made_of(init.shape))),
         MediaStep::Take { on: _, bind, kind } => Some((bind.as_str(), *kind)),
+        MediaStep::Receive {
+            from: _,
+            bind,
+            kind,
+        } => Some((bind.as_str(), *kind)),
         MediaStep::Clone { of, bind } => Some((bind.as_str(), of.kind)),
         MediaStep::Transfer { of, bind } => Some((bind.as_str(), of.kind)),
         MediaStep::Encode { on: _, content: _ } => None,
@@ -119,6 +158,7 @@ fn bound_media(step: &MediaStep) -> Option<(&str, VariableKind)>
             size: _,
         } => None,
         MediaStep::Size { of: _, options: _ } => None,
+        MediaStep::Post { to: _, content: _ } => None,
     }
 }
 

@@ -22,6 +22,20 @@ pub struct CallerItem {
     pub steps: List<Step>,
 }
 
+/// What a port between callers is of.
+#[derive(Clone, Copy, Debug, PartialEq, Eq)]
+pub enum PortKind {
+    Audio,
+    Frame,
+}
+
+/// A port, by which callers hand media to callers.
+#[derive(Debug, PartialEq, Drop)]
+pub struct PortItem {
+    pub name: Text,
+    pub of: PortKind,
+}
+
 /// One item of the order: the caller's next step, or what is done to a codec; `at` is the moment, in microseconds.
 #[derive(Clone, Copy, Debug, PartialEq, Eq)]
 pub enum OrderItem {
@@ -32,14 +46,15 @@ pub enum OrderItem {
     Reclaim { codec: u32, at: u64 },
 }
 
-/// What a script holds: codecs, callers with their steps, the order in which all is done, which may be absent, and the
-/// chunk files in order of first mention. A codec, a caller or a chunk file is named by its number in the script.
+/// What a script holds: codecs, callers with their steps, the order in which all is done, which may be absent, the ports
+/// between callers, and the chunk files in order of first mention. A codec, a caller or a chunk file is named by its number in the script.
 /// `inline` counts the bytes of all inline data, those of an init that breaks a rule of WebIDL too.
 #[derive(Debug, PartialEq, Drop)]
 pub struct ScriptData {
     pub codecs: List<CodecItem>,
     pub callers: List<CallerItem>,
     pub order: Option<List<OrderItem>>,
+    pub ports: List<PortItem>,
     pub chunk_files: List<Text>,
     pub inline: u64,
 }

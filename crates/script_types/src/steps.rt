@@ -1,7 +1,7 @@
 // The steps of callers.
 use crate::Options;
 use bytes::Bytes;
-use wc_base::{Ground, PictureShape, SoundShape, Text};
+use wc_base::{Ground, List, PictureShape, SoundShape, Text};
 use wc_config::Config;
 
 /// What a variable holds.
@@ -11,6 +11,7 @@ pub enum VariableKind {
     Audio,
     Frame,
     Promise,
+    Buffer,
 }
 
 /// A variable: its name, the number of the caller's step that defines it, and what it holds.
@@ -55,6 +56,35 @@ pub struct PictureInit {
     pub content: Bytes,
 }
 
+/// Where the bytes of an init come from.
+#[derive(Debug, PartialEq, Drop)]
+pub enum InitData {
+    Hex(Bytes),
+    /// They are those of the buffer that this variable holds.
+    Buffer(Variable),
+}
+
+/// What an init makes, apart from its bytes.
+#[derive(Clone, Copy, Debug, PartialEq, Eq)]
+pub enum InitShape {
+    Chunk {
+        key: bool,
+        timestamp: i64,
+        duration: Option<u64>,
+    },
+    Sound(SoundShape),
+    Picture(PictureShape),
+}
+
+/// What a chunk, audio data or a frame is made of where its init names array buffers: its data is a buffer's, or it lists
+/// buffers that it takes over (W3C WebCodecs, the member `transfer` of the three inits).
+#[derive(Debug, PartialEq, Drop)]
+pub struct BufferedInit {
+    pub shape: InitShape,
+    pub content: InitData,
+    pub transfer: List<Variable>,
+}
+
 /// A step that makes, uses or lets go of a media resource. `init` and the options are `None` where they break a rule of
 /// WebIDL.
 #[derive(Debug, PartialEq, Drop)]
@@ -66,6 +96,17 @@ pub enum MediaStep {
     Frame {
         bind: Text,
         init: Option<PictureInit>,
+    },
+    /// Makes an array buffer of these bytes.
+    Buffer {
+        bind: Text,
+        content: Bytes,
+    },
+    /// Makes a chunk, audio data or a frame by an init that names buffers. Without buffers it is `Audio`, `Frame` or a step
+    /// that makes a chunk.
+    Buffered {
+        bind: Text,
+        init: BufferedInit,
     },
     Encode {
         on: u32,
@@ -97,6 +138,18 @@ pub enum MediaStep {
     Size {
         of: Variable,
         options: Options,
+    },
+    /// Hands a medium into the port with this number.
+    Post {
+        to: u64,
+        content: Variable,
+    },
+    /// Takes the medium that was posted first and not received yet out of the port with this number; `kind` is what the port
+    /// is of.
+    Receive {
+        from: u64,
+        bind: Text,
+        kind: VariableKind,
     },
 }
 

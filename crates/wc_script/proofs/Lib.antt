@@ -1,9 +1,9 @@
 mod Proceeds
+mod PortLaws
 mod CodecLaws
 mod StepLaws
 mod CallerLaws
 mod OrderLaws
-mod CountLaws
 mod SoundLaws
 mod FaultLaws
 mod NumberLaws

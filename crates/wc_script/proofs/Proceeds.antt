@@ -6,7 +6,8 @@ use Rattle.std.specs.List.{list_all}
 use Rattle.serde_json.specs.Data.{Data, Items, no_items, item}
 use Rattle.script_types.specs.declared.fault.{Place.Place, Fault.Fault, Wrong.Wrong}
 use Rattle.chunk_files.specs.declared.fault.Stop.{Stop}
-use Rattle.wc_script.specs.{Faults.at, Faults.proceed, Walk.count_of}
+use Rattle.script_steps.specs.Counts.{count_of}
+use Rattle.wc_script.specs.{Faults.at, Faults.proceed}
 
 -- the rest goes on with what the first part gives, as in `and_then` and `proceed`
 abbrev Next : {A B E : Type 0} → Result A E → (A → Result B E) → Result B E

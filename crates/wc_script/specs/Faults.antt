@@ -24,6 +24,7 @@ proceed (Ok a) f = f a
 abbrev pub IsOfScript : Stop Fault → Type 0
 IsOfScript (stop.Fault (fault.TooMany counted.Script)) = ⊥
 IsOfScript (stop.Fault (fault.TooMany counted.File)) = ⊥
+IsOfScript (stop.Fault (fault.TooMany counted.Report)) = ⊥
 IsOfScript (stop.Fault (fault.Unread name)) = ⊥
 IsOfScript (stop.Fault (fault.Chunks name e)) = ⊥
 IsOfScript (stop.Fault (fault.NoIndex name p)) = ⊥

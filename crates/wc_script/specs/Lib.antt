@@ -1,5 +1,6 @@
 pub mod Faults
 pub mod Codecs
+pub mod Ports
 pub mod Callers
 pub mod Order
 pub mod Walk

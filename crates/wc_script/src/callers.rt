@@ -13,7 +13,7 @@ use crate::faults::fault_at;
 use bytes::Bytes;
 use json_data::Value;
 use script_steps::{
-    Files, StepWord, Variables, array_member, is_caller_name, is_codec_name, name_member,
+    Files, Ports, StepWord, Variables, array_member, is_caller_name, is_codec_name, name_member,
     read_inline_data, read_step, steps_are_sound, word_member,
 };
 use script_types::{
@@ -77,6 +77,7 @@ fn byte_count(content: &Option<Bytes>) -> usize
 fn read_word_step(
     alloc: Global,
     codecs: &[CodecItem],
+    ports: &Ports,
     files: &mut Files,
     before: &Variables,
     value: &Value<'_>,
@@ -89,10 +90,11 @@ fn read_word_step(
     requires word { word ≡ word_in (view value.now) }
     requires content { content ≡ inline_data (view value.now) }
     ensures { GivesAs
-        (λ s. (s, files.new)) result (step_of codecs.now files.old before.now (view value.now)) }
+        (λ s. (s, files.new)) result (step_of codecs.now ports.now files.old before.now
+        (view value.now)) }
 {
     match word {
-        Some(word) => read_step(alloc, codecs, files, before, value, word, content),
+        Some(word) => read_step(alloc, codecs, ports, files, before, value, word, content),
         None => Err(Stop::Fault(Wrong::Shape)),
     }
 }
@@ -100,6 +102,7 @@ fn read_word_step(
 fn read_step_at(
     alloc: Global,
     codecs: &[CodecItem],
+    ports: &Ports,
     place: Place,
     walked: &mut Walked,
     value: &Value<'_>,
@@ -113,13 +116,15 @@ fn read_step_at(
     requires content { content ≡ inline_data (view value.now) }
     ensures given { GivesAs
         (λ s. (s, walked.new.files)) result
-        (faults.at place (step_of codecs.now walked.old.files walked.old.steps (view value.now))) }
+        (faults.at place
+        (step_of codecs.now ports.now walked.old.files walked.old.steps (view value.now))) }
     ensures steps { walked.new.steps ≡ walked.old.steps }
 {
     let before = &walked.steps;
     match read_word_step(
         alloc,
         codecs,
+        ports,
         &mut walked.files,
         before,
         value,
@@ -136,6 +141,7 @@ fn read_step_at(
 fn read_counted_step(
     alloc: Global,
     codecs: &[CodecItem],
+    ports: &Ports,
     i: u32,
     walked: &mut Walked,
     value: &Value<'_>,
@@ -144,13 +150,14 @@ fn read_counted_step(
     requires files { length walked.old.files + walked.old.room.steps ≤ 100000 }
     requires steps { length walked.old.steps + walked.old.room.steps ≤ 100000 }
     ensures { GivesAs
-        (λ _. walked.new) result (counted_step_of codecs.now i walked.old (view value.now)) }
+        (λ _. walked.new) result (counted_step_of codecs.now ports.now i walked.old
+        (view value.now)) }
 {
     let word = word_member(value);
     let content = read_inline_data(alloc, word, value)?;
     let room = room_after(walked.room, byte_count(&content))?;
     let place = Place::Step(i, walked.steps.len() as u32);
-    let step = read_step_at(alloc, codecs, place, walked, value, word, content)?;
+    let step = read_step_at(alloc, codecs, ports, place, walked, value, word, content)?;
     walked.steps.push(step)?;
     walked.room = room;
     Ok(())
@@ -161,6 +168,7 @@ fn read_counted_step(
 fn read_next_step(
     alloc: Global,
     codecs: &[CodecItem],
+    ports: &Ports,
     i: u32,
     walked: &mut Walked,
     value: &Value<'_>,
@@ -169,18 +177,20 @@ fn read_next_step(
     requires files { length walked.old.files + walked.old.room.steps ≤ 100000 }
     requires steps { length walked.old.steps + walked.old.room.steps ≤ 100000 }
     ensures given { GivesAs
-        (λ _. walked.new) result (counted_step_of codecs.now i walked.old (view value.now)) }
+        (λ _. walked.new) result (counted_step_of codecs.now ports.now i walked.old
+        (view value.now)) }
     ensures files { OnOk result (length walked.new.files + walked.new.room.steps ≤ 100000) }
     ensures steps { OnOk result (length walked.new.steps + walked.new.room.steps ≤ 100000) }
 {
     steps_are_sound();
-    read_counted_step(alloc, codecs, i, walked, value)
+    read_counted_step(alloc, codecs, ports, i, walked, value)
 }
 
 // The steps of caller `i`.
 fn read_steps(
     alloc: Global,
     codecs: &[CodecItem],
+    ports: &Ports,
     i: u32,
     files: Files,
     room: Room,
@@ -189,7 +199,7 @@ fn read_steps(
     requires codecs { length codecs.now ≤ 64 }
     requires files { length files + room.steps ≤ 100000 }
     ensures given { Gives result
-        (steps_of codecs.now i (record { steps = []; files = files; room = room })
+        (steps_of codecs.now ports.now i (record { steps = []; files = files; room = room })
         (items_view items.now)) }
     ensures files { IfOk result (λ w. length w.files + w.room.steps ≤ 100000) }
 {
@@ -199,7 +209,7 @@ fn read_steps(
         room,
     };
     for value in items {
-        read_next_step(alloc, codecs, i, &mut walked, value)?;
+        read_next_step(alloc, codecs, ports, i, &mut walked, value)?;
     }
     Ok(walked)
 }
@@ -250,6 +260,7 @@ fn read_heading_at<'v, 'a>(
 fn read_caller(
     alloc: Global,
     codecs: &[CodecItem],
+    ports: &Ports,
     before: &[CallerItem],
     files: Files,
     room: Room,
@@ -258,11 +269,20 @@ fn read_caller(
     requires codecs { length codecs.now ≤ 64 }
     requires callers { length before.now ≤ 16 }
     requires files { length files + room.steps ≤ 100000 }
-    ensures given { Gives result (caller_of codecs.now before.now files room (view value.now)) }
+    ensures given { Gives result (caller_of codecs.now ports.now before.now files room
+        (view value.now)) }
     ensures files { IfOk result (λ h. length h.files + h.room.steps ≤ 100000) }
 {
     let (name, items) = read_heading_at(alloc, codecs, before, value)?;
-    let walked = read_steps(alloc, codecs, before.len() as u32, files, room, items)?;
+    let walked = read_steps(
+        alloc,
+        codecs,
+        ports,
+        before.len() as u32,
+        files,
+        room,
+        items,
+    )?;
     let steps = List::of(walked.steps.into_steps());
     Ok(Heard {
         caller: CallerItem { name, steps },
@@ -275,6 +295,7 @@ fn read_caller(
 pub fn read_callers(
     alloc: Global,
     codecs: &[CodecItem],
+    ports: &Ports,
     room: Room,
     items: &[Value<'_>],
 ) -> Result<(Vec<CallerItem>, (Files, Room)), Stop<Fault>>
@@ -283,14 +304,14 @@ pub fn read_callers(
     requires room { room.steps ≤ 100000 }
     ensures given { GivesAs
         (λ r. (r.0.items, (r.1.0, r.1.1))) result
-        (callers_of codecs.now [] [] room (items_view items.now)) }
+        (callers_of codecs.now ports.now [] [] room (items_view items.now)) }
     ensures few { IfOk result (λ r. length r.0.items ≤ 16) }
 {
     let mut callers = Vec::new(alloc);
     let mut files = Files::new(alloc);
     let mut left = room;
     for value in items {
-        let heard = read_caller(alloc, codecs, &callers, files, left, value)?;
+        let heard = read_caller(alloc, codecs, ports, &callers, files, left, value)?;
         files = heard.files;
         left = heard.room;
         if callers.push(heard.caller).is_err() {

@@ -6,6 +6,7 @@ mod codecs;
 mod faults;
 mod laws;
 mod order;
+mod ports;
 mod read;
 mod walk;
 

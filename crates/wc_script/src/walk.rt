@@ -11,6 +11,7 @@ ghost use Rattle.script_types.specs.Reading.{Gives};
 use crate::callers::{Room, read_callers};
 use crate::codecs::read_codecs;
 use crate::order::read_order;
+use crate::ports::{read_named_ports, read_ports_at};
 use json_data::Value;
 use script_steps::{array_member, has};
 use script_types::{
@@ -20,7 +21,7 @@ use std::alloc::Global;
 use wc_base::List;
 
 // A member that is an array, within its limit.
-#[tactic(auto, using(crate::proofs::CountLaws::count_of_view))]
+#[tactic(auto, using(script_steps::specs::Counts::count_of_view))]
 fn few_member<'v, 'a>(
     value: &'v Value<'a>,
     key: &str,
@@ -44,12 +45,13 @@ fn few_member<'v, 'a>(
     }
 }
 
-// The three arrays of a script, each within its limit; the order may be absent.
+// The arrays of a script, the first three within their limits; the order and the ports may be absent.
 #[derive(Clone, Copy)]
 struct Parts<'v, 'a> {
     codecs: &'v [Value<'a>],
     callers: &'v [Value<'a>],
     order: Option<&'v [Value<'a>]>,
+    ports: Option<&'v [Value<'a>]>,
 }
 
 fn shape_at_top() -> Stop<Fault>
@@ -70,6 +72,7 @@ fn read_parts<'v, 'a>(value: &'v Value<'a>) -> Result<Parts<'v, 'a>, Stop<Fault>
           codecs = items_view p.codecs.now;
           callers = items_view p.callers.now;
           order = option_map (λ s. items_view s.now) p.order;
+          ports = option_map (λ s. items_view s.now) p.ports;
         })) }
     ensures codecs { IfOk result (λ p. length p.codecs.now ≤ 64) }
     ensures callers { IfOk result (λ p. length p.callers.now ≤ 16) }
@@ -89,6 +92,7 @@ fn read_parts<'v, 'a>(value: &'v Value<'a>) -> Result<Parts<'v, 'a>, Stop<Fault>
         codecs,
         callers,
         order,
+        ports: array_member(value, "ports"),
     })
 }
 
@@ -118,14 +122,14 @@ fn counts_agree(callers: &[CallerItem], order: &[OrderItem]) -> bool
 
 fn check_order(
     callers: &[CallerItem],
-    order: Vec<OrderItem>,
+    order: Option<List<OrderItem>>,
 ) -> Result<Option<List<OrderItem>>, Stop<Fault>>
-    ensures { result ≡ checked_order callers.now order.items }
+    ensures { result ≡ checked_order callers.now order }
 {
-    if counts_agree(callers, &order) {
-        Ok(Some(List::of(order)))
-    } else {
-        Err(shape_at_top())
+    match order {
+        None => Ok(None),
+        Some(items) if counts_agree(callers, items.as_slice()) => Ok(Some(items)),
+        Some(_) => Err(shape_at_top()),
     }
 }
 
@@ -147,7 +151,7 @@ fn read_ordered(
         None => Ok(None),
         Some(items) => {
             let order = read_order(alloc, codecs, callers, items)?;
-            check_order(callers, order)
+            Ok(Some(List::of(order)))
         }
     }
 }
@@ -163,12 +167,16 @@ pub fn read_value(alloc: Global, value: &Value<'_>) -> Result<ScriptData, Stop<F
         steps: limit_of(Counted::Steps),
         media: limit_of(Counted::Media),
     };
-    let (callers, (files, left)) = read_callers(alloc, &codecs, room, parts.callers)?;
-    let order = read_ordered(alloc, &codecs, &callers, parts.order)?;
+    let named = read_named_ports(alloc, parts.ports)?;
+    let (callers, (files, left)) = read_callers(alloc, &codecs, &named, room, parts.callers)?;
+    let items = read_ordered(alloc, &codecs, &callers, parts.order)?;
+    let ports = read_ports_at(alloc, &codecs, &callers, has(value, "ports"), parts.ports)?;
+    let order = check_order(&callers, items)?;
     Ok(ScriptData {
         codecs: List::of(codecs),
         callers: List::of(callers),
         order,
+        ports,
         chunk_files: List::of(files.into_names()),
         inline: limit_of(Counted::Media).saturating_sub(left.media) as u64,
     })

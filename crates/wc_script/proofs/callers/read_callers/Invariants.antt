@@ -5,7 +5,7 @@ use Rattle.wc_script.proofs.callers.read_callers.Given as goal
 
 abbrev pub invariant-loop-value : goal.invariant-loop-value
 invariant-loop-value l =
-    (callers_of l.codecs [] [] l.fn.room (items_view l.items)
-    ≡ callers_of l.codecs l.callers.items l.files l.left (items_view (drop l.value-index l.items)))
+    (callers_of l.codecs l.ports [] [] l.fn.room (items_view l.items)
+    ≡ callers_of l.codecs l.ports l.callers.items l.files l.left (items_view (drop l.value-index l.items)))
     × (length l.callers.items ≡ l.value-index)
     × (length l.files + l.left.steps ≤ 100000)
