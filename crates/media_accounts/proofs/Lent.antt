@@ -1,14 +1,15 @@
 -- The references that codecs hold stay live and apart in each step of a caller: they stand as those of one caller more do.
 use Rattle.std.proofs.Common.{ℕ, zero, suc, ◌≡◌, ◌≢◌, ◌<◌, ◌+◌, ◌⊎◌, inl, inr, true, List, [], ◌∷◌, ◌++◌, length, get_or, map, Option, Some, None, refl, ap, sym, subst, ◌∙◌, arith}
-use Rattle.std.specs.Prelude.{pos, slice_get, slice_set, option_map}
+use Rattle.std.specs.Prelude.{pos, slice_get, slice_set, option_map, IfSome}
 use Rattle.std.proofs.lemmas.Bool.{cases_eq}
 use Rattle.std.proofs.lemmas.List.{length-append, set-append_left}
 use Rattle.wc_base.specs.declared.{media.SampleFormat.SampleFormat, who.Who.Who}
 use Rattle.wc_pool.specs.{declared.entry.PoolEntry.PoolEntry, Bag.resource_of, Bag.is_legal_pool}
 use Rattle.codec_model.specs.declared.entry.Pair.{Pair}
 use Rattle.script_types.specs.declared.steps.MediaStep.{MediaStep}
-use Rattle.media_variables.specs.Variables.{Reference, SoundOf, Medium, Came, Brought, next_numbers, medium_at, variables_of, media_came, entries_of}
-use Rattle.media_variables.specs.Held.{held_by, reference_at, AreHeld, AreApart, StayHeld}
+use Rattle.media_variables.specs.Variables.{Reference, SoundOf, Medium, Came, Received, Brought, next_numbers, medium_at, variables_of, media_came, entries_of}
+use Rattle.media_variables.specs.Held.{held_by, reference_at, IsLiveIn, AreHeld, AreApart, IsFree, MayReceive, StayHeld}
+use Rattle.media_accounts.specs.Accounts.{IsNoneOf}
 
 -- ---- lists of variables
 
@@ -40,7 +41,7 @@ holds_it [] i = refl
 holds_it (p ∷ ps) zero = refl
 holds_it (p ∷ ps) (suc i) = holds_it ps i
 
-abbrev with_holders : List (List (Option Medium)) → List Pair → List (List (Option Medium))
+abbrev pub with_holders : List (List (Option Medium)) → List Pair → List (List (Option Medium))
 with_holders all ps = all ++ holders ps ∷ []
 
 at_last : (all : List (List (Option Medium))) (ps : List Pair) (i : ℕ) → reference_at (with_holders all ps) (length all) i ≡ option_map of_pair (slice_get ps i)
@@ -103,15 +104,32 @@ drop_holders pool all ps h =
           );
     }
 
+-- what may be received stands apart from these references too
+free_with : (all : List (List (Option Medium))) (ps : List Pair) (number : ℕ) → IsFree all number → ((i : ℕ) (p : Pair) → slice_get ps i ≡ Some p → p.reference ≢ number) → IsFree (with_holders all ps) number
+free_with all ps number free none = record {
+  none = λ k j r is same. elim (found all ps k j r is) [
+    | inl last ↦ none j last.1.0 last.1.1 (ap (λ (x : Reference). x.number) last.1.2 ∙ same)
+    | inr there ↦ free.none k j r there same
+  ];
+}
+
+held_with : (pool : List PoolEntry) (all : List (List (Option Medium))) (holds : ℕ → List Pair) (k : ℕ) (o : Option Reference) → IfSome o (λ r. IsLiveIn pool r × IsFree all r.number) → IfSome o (λ r. IsNoneOf holds r.number) → IfSome o (λ r. IsLiveIn pool r × IsFree (with_holders all (holds k)) r.number)
+held_with pool all holds k None may none = tt
+held_with pool all holds k (Some r) may none = (may.0, free_with all (holds k) r.number may.1 (none k))
+
+pub may_with : (pool : List PoolEntry) (all : List (List (Option Medium))) (holds : ℕ → List Pair) (k : ℕ) (o : Option Received) → MayReceive pool all o → IfSome o (λ p. IfSome p.medium.held (λ r. IsNoneOf holds r.number)) → MayReceive pool (with_holders all (holds k)) o
+may_with pool all holds k None may none = tt
+may_with pool all holds k (Some p) may none = held_with pool all holds k p.medium.held may none
+
 -- references that are apart from all variables stay so, whatever a step on media comes to
 pub stay_apart : StayHeld → (pool : List PoolEntry) (who : Who) (all : List (List (Option Medium))) (b : Brought) (x : MediaStep) (y : Came) (ps : List Pair)
-    → is_legal_pool pool ≡ true → who.caller < length all → AreHeld pool all → AreApart pool all ps → media_came (next_numbers pool) who b x (variables_of who.caller all) ≡ Some y
+    → is_legal_pool pool ≡ true → who.caller < length all → AreHeld pool all → AreApart pool all ps → MayReceive pool (with_holders all ps) b.received → media_came (next_numbers pool) who b x (variables_of who.caller all) ≡ Some y
     → AreApart (pool ++ entries_of pool who y.does) (slice_set all who.caller y.variables) ps
-stay_apart stay pool who all b x y ps legal lt h a comes =
+stay_apart stay pool who all b x y ps legal lt h a may comes =
     let more = with_holders all ps in
     let long : length more ≡ length all + 1 = length-append all (holders ps ∷ []) in
     let here : variables_of who.caller more ≡ variables_of who.caller all = variables_before who.caller (holders ps) all (λ e. omega (arith, lt, e)) in
     let comes_too : media_came (next_numbers pool) who b x (variables_of who.caller more) ≡ Some y = ap (media_came (next_numbers pool) who b x) here ∙ comes in
-    let kept = stay pool who more b x y legal (omega (arith, lt, long)) (add_holders pool all ps h a) comes_too in
+    let kept = stay pool who more b x y legal (omega (arith, lt, long)) (add_holders pool all ps h a) may comes_too in
     drop_holders (pool ++ entries_of pool who y.does) (slice_set all who.caller y.variables) ps
     (subst (λ (l : List (List (Option Medium))). AreHeld (pool ++ entries_of pool who y.does) l) (set-append_left all (holders ps ∷ []) who.caller y.variables lt) kept)

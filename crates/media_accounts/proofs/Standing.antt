@@ -1,15 +1,14 @@
 -- What stands of all callers' media.
 use Rattle.std.proofs.Common.{ℕ, zero, suc, ◌≡◌, ◌≢◌, ◌<◌, true, List, [], ◌∷◌, ◌++◌, length, map, Option, Some, None, refl, ap, sym, ◌∙◌, arith}
 use Rattle.std.specs.Prelude.{slice_get, slice_set, option_and_then}
-use Rattle.std.proofs.lemmas.Bool.{and_from}
 use Rattle.std.proofs.lemmas.List.{append-nil, get_or-set_same, get_or-set_other, length-map, length-set}
 use Rattle.script_types.specs.declared.{script.CallerItem.CallerItem, steps.MediaStep.MediaStep, steps.Step.Step}
-use Rattle.wc_base.specs.declared.who.{By.By, Who.Who}
-use Rattle.wc_pool.specs.{declared.entry.PoolOp.PoolOp, Bag.is_legal_next, Bag.is_legal_from, declared.entry.PoolEntry.PoolEntry}
-use Rattle.media_variables.specs.Variables.{Medium, Media, Numbers, Came, Brought, next_numbers, media_came, flag_behind, entry_of, entries_of, variables_of}
+use Rattle.wc_base.specs.declared.who.{Who.Who}
+use Rattle.wc_pool.specs.{Bag.is_legal_from, declared.entry.PoolEntry.PoolEntry}
+use Rattle.media_variables.specs.Variables.{Medium, Media, Numbers, Came, Brought, next_numbers, media_came, entries_of, variables_of}
 use Rattle.media_variables.specs.Held.{AreHeld, StayHeld, DoLegally}
-use Rattle.media_accounts.specs.Accounts.{step_by, ops_by, numbers_of, media_of, variables_by, came_on, came_in, variables_in, Lending, AreLent, OneMore, MediaStand, NothingStands, StepsStand, OthersStand, LaterStand}
-use Rattle.media_accounts.proofs.{Pools.by_one, Pools.of_same, Lent.variables_at, Lent.stay_apart}
+use Rattle.media_accounts.specs.Accounts.{step_by, ops_by, numbers_of, media_of, done_by, variables_by, came_on, came_in, variables_in, Lending, AreLent, OneMore, MediaStand, NothingStands, StepsStand, OthersStand, LaterStand}
+use Rattle.media_accounts.proofs.{Pools.by_one, Pools.of_same, Lent.variables_at, Lent.stay_apart, Lent.may_with}
 use Rattle.media_accounts.proofs.Steps.{ComesToo, variables_stay, came_stays, comes_there, came_before, came_now, variables_now, variables_others, grown}
 
 -- ---- lists of variables
@@ -18,11 +17,6 @@ none_there : (callers : List CallerItem) (c : ℕ) → variables_of c (map (λ x
 none_there [] c = refl
 none_there (x ∷ xs) zero = refl
 none_there (x ∷ xs) (suc c) = none_there xs c
-
--- the entry of a step is legal, if it makes one
-entries_legal : (pool : List PoolEntry) (who : Who) (o : Option PoolOp) → ((e : PoolEntry) → entries_of pool who o ≡ e ∷ [] → is_legal_next pool e ≡ true) → is_legal_from pool (entries_of pool who o) ≡ true
-entries_legal pool who None legal = refl
-entries_legal pool who (Some o) legal = and_from _ true (legal (entry_of who (flag_behind (By.Caller who) pool o) o) refl) refl
 
 -- ---- before any step
 
@@ -54,10 +48,10 @@ nothing_stands steps brought callers = record {
 -- One step more, which comes to this, leaves the pool's history with its entry, and these variables.
 module _ (steps : ℕ → List Step) (brought : ℕ → ℕ → MediaStep → Brought) (codecs : Lending) (made more : ℕ → ℕ) (callers : ℕ) (m : Media) (c : ℕ) (st : MediaStand steps brought codecs made callers m) (one : OneMore made more c) (o : Option Came) where
   abbrev longer : List PoolEntry
-  longer = m.pool ++ entries_of m.pool (step_by c (made c)) (option_and_then (λ (z : Came). z.does) o)
+  longer = m.pool ++ entries_of m.pool (step_by c (made c)) (done_by o)
 
   stands_after : (us : List (List (Option Medium))) → came_on steps brought longer c (made c) (variables_in steps brought m.pool c (made c)) ≡ o
-      → is_legal_from m.pool (entries_of m.pool (step_by c (made c)) (option_and_then (λ (z : Came). z.does) o)) ≡ true
+      → is_legal_from m.pool (entries_of m.pool (step_by c (made c)) (done_by o)) ≡ true
       → variables_of c us ≡ variables_by o (variables_of c m.variables) → ((d : ℕ) → d ≢ c → variables_of d us ≡ variables_of d m.variables)
       → AreHeld longer us → AreLent longer us codecs.holds → length us ≡ length m.variables → MediaStand steps brought codecs more callers (record { variables = us; pool = longer })
   stands_after us comes legal here others held lent long = record {
@@ -71,7 +65,7 @@ module _ (steps : ℕ → List Step) (brought : ℕ → ℕ → MediaStep → Br
   }
 
 pub step_stands : StayHeld → DoLegally → StepsStand
-step_stands stay legally steps brought codecs made more callers m c x y st lt one is comes =
+step_stands stay legally steps brought codecs made more callers m c x y st lt one is may comes =
     let who = step_by c (made c) in
     let vs = variables_in steps brought m.pool c (made c) in
     let there : c < length m.variables = (let n = st.there in omega (arith, lt, n)) in
@@ -82,12 +76,12 @@ step_stands stay legally steps brought codecs made more callers m c x y st lt on
     ∙ comes_there steps brought codecs.lends made more m.pool c st.accounted one x y vs same in
     record {
       stands = stands_after steps brought codecs made more callers m c st one (Some y) (slice_set m.variables c y.variables) came
-          (entries_legal m.pool who y.does (λ e made_it. legally m.pool who m.variables (brought c (made c) x) x y e st.accounted.legal st.held comes made_it))
+          (legally m.pool who m.variables (brought c (made c) x) x y st.accounted.legal there st.held comes)
           (variables_at c (slice_set m.variables c y.variables) ∙ get_or-set_same m.variables c y.variables [] there)
           (λ d other. variables_at d (slice_set m.variables c y.variables) ∙ (get_or-set_other m.variables c d y.variables [] other ∙ sym (variables_at d m.variables)))
-          (stay m.pool who m.variables (brought c (made c) x) x y st.accounted.legal there st.held comes)
+          (stay m.pool who m.variables (brought c (made c) x) x y st.accounted.legal there st.held may.0 comes)
           (record {
-            apart = λ k. stay_apart stay m.pool who m.variables (brought c (made c) x) x y (codecs.holds k) st.accounted.legal there st.held (st.lent.apart k) comes;
+            apart = λ k. stay_apart stay m.pool who m.variables (brought c (made c) x) x y (codecs.holds k) st.accounted.legal there st.held (st.lent.apart k) (may_with m.pool m.variables codecs.holds k (brought c (made c) x).received may.0 may.1) comes;
             between = st.lent.between;
           })
           (length-set m.variables c y.variables);

@@ -1,12 +1,11 @@
 -- One step more of a caller.
-use Rattle.std.proofs.Common.{ℕ, zero, suc, ◌≡◌, ◌≢◌, ◌≤◌, ◌<◌, Bool, true, cond, if◌then◌else◌, List, [], ◌∷◌, ◌++◌, Option, Some, None, refl, ap, sym, subst, ◌∙◌, arith, eq-eqb}
+use Rattle.std.proofs.Common.{ℕ, zero, suc, ◌≡◌, ◌≢◌, ◌≤◌, ◌<◌, Bool, true, cond, if◌then◌else◌, List, [], ◌∷◌, ◌++◌, Option, Some, refl, ap, sym, subst, ◌∙◌, arith, eq-eqb}
 use Rattle.std.specs.Prelude.{map, slice_get, option_and_then}
-use Rattle.std.specs.Option.{option_to_list}
 use Rattle.std.proofs.lemmas.Bool.{ne_eqb}
 use Rattle.wc_base.specs.declared.who.{By.By, Who.Who}
 use Rattle.wc_pool.specs.{declared.entry.PoolEntry.PoolEntry, declared.entry.PoolOp.PoolOp, Bag.is_legal_from}
 use Rattle.script_types.specs.declared.steps.{MediaStep.MediaStep, Step.Step}
-use Rattle.media_variables.specs.Variables.{Medium, Came, Brought, next_numbers, media_came, with_last, flag_behind, entries_of}
+use Rattle.media_variables.specs.Variables.{Medium, Came, Brought, next_numbers, media_came, with_last, flag_behind, entry_behind, entries_of}
 use Rattle.media_variables.specs.CameLaws.{HasNumbers, does_of, came_by_numbers}
 use Rattle.media_accounts.specs.Accounts.{StepOp, step_by, is_by_step, numbers_in, numbers_of, ops_by, without_last, media_of, done_by, step_op, own_by, own_in, own_of, variables_by, is_by_entry, came_on, variables_in, came_in, MediaAreIn, OneMore}
 use Rattle.media_accounts.specs.OwnLaws.{own_past}
@@ -14,9 +13,9 @@ use Rattle.media_accounts.proofs.Pools.{by_one, own_place, other_place, AllBy, o
 
 -- ---- the entry of a step
 
-entries_its : (pool : List PoolEntry) (who : Who) (o : Option PoolOp) → AllBy (By.Caller who) (entries_of pool who o)
-entries_its pool who None = tt
-entries_its pool who (Some o) = (refl, tt)
+entries_its : (pool : List PoolEntry) (who : Who) (os : List PoolOp) → AllBy (By.Caller who) (entries_of pool who os)
+entries_its pool who [] = tt
+entries_its pool who (o ∷ os) = (refl, entries_its (pool ++ entry_behind pool who o ∷ []) who os)
 
 plain : (b : Bool) (o : PoolOp) → without_last (with_last b o) ≡ without_last o
 plain b (PoolOp.Make r f) = refl
@@ -26,20 +25,22 @@ plain b (PoolOp.End r f last) = refl
 abbrev op_of : ℕ → PoolOp → StepOp
 op_of j p = record { step = j; op = p }
 
--- a step's entry is the caller's own
-entry_own : (c j : ℕ) (b : Bool) (o : PoolOp) → own_by c (By.Caller (step_by c j)) (with_last b o) ++ [] ≡ step_op j o ∷ []
-entry_own c j b o =
-    ap (λ (t : Bool). (if t then step_op j (with_last b o) ∷ [] else []) ++ []) (eq-eqb c c refl) ∙ ap (λ (p : PoolOp). op_of j p ∷ []) (plain b o)
+-- a step's entries are the caller's own
+entry_own : (c j : ℕ) (b : Bool) (o : PoolOp) (rest : List StepOp) → own_by c (By.Caller (step_by c j)) (with_last b o) ++ rest ≡ step_op j o ∷ rest
+entry_own c j b o rest =
+    ap (λ (t : Bool). (if t then step_op j (with_last b o) ∷ [] else []) ++ rest) (eq-eqb c c refl) ∙ ap (λ (p : PoolOp). op_of j p ∷ rest) (plain b o)
 
-entries_own : (pool : List PoolEntry) (c j : ℕ) (o : Option PoolOp) → own_in c (entries_of pool (step_by c j) o) ≡ map (step_op j) (option_to_list o)
-entries_own pool c j None = refl
-entries_own pool c j (Some o) = entry_own c j (flag_behind (By.Caller (step_by c j)) pool o) o
+entries_own : (pool : List PoolEntry) (c j : ℕ) (os : List PoolOp) → own_in c (entries_of pool (step_by c j) os) ≡ map (step_op j) os
+entries_own pool c j [] = refl
+entries_own pool c j (o ∷ os) =
+    let next = pool ++ entry_behind pool (step_by c j) o ∷ [] in
+    entry_own c j (flag_behind (By.Caller (step_by c j)) pool o) o (own_in c (entries_of next (step_by c j) os)) ∙ ap (λ (l : List StepOp). step_op j o ∷ l) (entries_own next c j os)
 
--- the numbers in an entry are those of what it does
-numbers_its : (b : Bool) (o : PoolOp) → HasNumbers (numbers_in (with_last b o)) (Some o)
-numbers_its b (PoolOp.Make r f) = (refl, refl)
-numbers_its b (PoolOp.Clone r f) = refl
-numbers_its b (PoolOp.End r f last) = tt
+-- the numbers in the first entry are those of what it does
+numbers_its : (b : Bool) (o : PoolOp) (os : List PoolOp) → HasNumbers (numbers_in (with_last b o)) (o ∷ os)
+numbers_its b (PoolOp.Make r f) os = (refl, refl)
+numbers_its b (PoolOp.Clone r f) os = refl
+numbers_its b (PoolOp.End r f last) os = tt
 
 -- ---- what steps came to, as more is brought and the history grows
 
@@ -72,15 +73,16 @@ module _ (steps : ℕ → List Step) (brought : ℕ → ℕ → MediaStep → Br
   done_none : ops_by c (made c) pool ≡ []
   done_none = own_past c pool (came_in steps brought pool c) (made c) (made c) (m.own c) (omega arith)
 
-  entry_done : (o : PoolOp) → ops_by c (made c) (pool ++ entries_of pool who (Some o)) ≡ with_last (flag_behind (By.Caller who) pool o) o ∷ []
-  entry_done o =
+  entry_done : (o : PoolOp) (os : List PoolOp) → ops_by c (made c) (pool ++ entries_of pool who (o ∷ os)) ≡ with_last (flag_behind (By.Caller who) pool o) o ∷ ops_by c (made c) (entries_of (pool ++ entry_behind pool who o ∷ []) who os)
+  entry_done o os =
       let p = with_last (flag_behind (By.Caller who) pool o) o in
-      ops_more (is_by_step c (made c)) pool (entries_of pool who (Some o))
-      ∙ (ap (λ (os : List PoolOp). os ++ ops_by c (made c) (entries_of pool who (Some o))) done_none ∙ ap (λ (b : Bool). cond b (p ∷ []) []) (own_place c (made c)))
+      let rest = ops_by c (made c) (entries_of (pool ++ entry_behind pool who o ∷ []) who os) in
+      ops_more (is_by_step c (made c)) pool (entries_of pool who (o ∷ os))
+      ∙ (ap (λ (l : List PoolOp). l ++ ops_by c (made c) (entries_of pool who (o ∷ os))) done_none ∙ ap (λ (b : Bool). cond b (p ∷ rest) rest) (own_place c (made c)))
 
-  its_numbers : (o : Option PoolOp) → HasNumbers (numbers_of (ops_by c (made c) (pool ++ entries_of pool who o))) o
-  its_numbers None = tt
-  its_numbers (Some o) = subst (λ (os : List PoolOp). HasNumbers (numbers_of os) (Some o)) (sym (entry_done o)) (numbers_its (flag_behind (By.Caller who) pool o) o)
+  its_numbers : (os : List PoolOp) → HasNumbers (numbers_of (ops_by c (made c) (pool ++ entries_of pool who os))) os
+  its_numbers [] = tt
+  its_numbers (o ∷ os) = subst (λ (ps : List PoolOp). HasNumbers (numbers_of ps) (o ∷ os)) (sym (entry_done o os)) (numbers_its (flag_behind (By.Caller who) pool o) o os)
 
   -- it comes to the same with the numbers in its own entry
   pub comes_there : (x : MediaStep) (y : Came) (vs : List (Option Medium)) → media_came (next_numbers pool) who (brought c (made c) x) x vs ≡ Some y
@@ -91,13 +93,13 @@ module _ (steps : ℕ → List Step) (brought : ℕ → ℕ → MediaStep → Br
 
   module _ (o : Option Came) where
     abbrev new : List PoolEntry
-    new = entries_of pool who (option_and_then (λ (z : Came). z.does) o)
+    new = entries_of pool who (done_by o)
 
     abbrev longer : List PoolEntry
     longer = pool ++ new
 
     its : AllBy (By.Caller who) new
-    its = entries_its pool who (option_and_then (λ (z : Came). z.does) o)
+    its = entries_its pool who (done_by o)
 
     comes_still : (d i : ℕ) → ((d ≡ c) → (i ≡ made c) → ⊥) → ComesToo steps brought brought pool longer d i
     comes_still d i apart = comes_too steps brought pool longer d i (ops_kept (is_by_step d i) (By.Caller who) pool new its (other_place c d (made c) i apart))
@@ -131,7 +133,7 @@ module _ (steps : ℕ → List Step) (brought : ℕ → ℕ → MediaStep → Br
           let after = came_in steps brought longer c in
           own_both c pool new
           ∙ (ap (λ (l : List StepOp). l ++ own_in c new) (m.own c ∙ of_same (came_in steps brought pool c) after (made c) (λ i lt. sym (came_before c i lt)))
-          ∙ (ap (λ (l : List StepOp). own_of after (made c) ++ l) (entries_own pool c (made c) (option_and_then (λ (z : Came). z.does) o) ∙ ap (λ (y : Option Came). map (step_op (made c)) (done_by y)) (sym came_now))
+          ∙ (ap (λ (l : List StepOp). own_of after (made c) ++ l) (entries_own pool c (made c) (done_by o) ∙ ap (λ (y : Option Came). map (step_op (made c)) (done_by y)) (sym came_now))
           ∙ ap (own_of after) (sym one.here)))
 
       pub grown : is_legal_from pool new ≡ true → MediaAreIn steps brought lends more longer

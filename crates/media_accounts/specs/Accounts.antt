@@ -1,7 +1,6 @@
 -- What the steps of callers, and the entries of codecs, call for in the history of the pool of media (W3C WebCodecs, 'Memory
--- Model'; that each step has at most one entry, and what numbers stand in it, are our choice).
-use Rattle.std.specs.Prelude.{ℕ, zero, suc, ◌≡◌, ◌≢◌, ◌<◌, ◌==◌, ◌&&◌, ◌⊎◌, Bool, true, false, List, [], ◌∷◌, ◌++◌, length, map, take, slice_get, Option, Some, None, option_and_then, if◌then◌else◌}
-use Rattle.std.specs.Option.{option_to_list}
+-- Model'; in what order a step's entries stand, and what numbers stand in them, are our choice).
+use Rattle.std.specs.Prelude.{ℕ, zero, suc, ◌≡◌, ◌≢◌, ◌<◌, ◌==◌, ◌&&◌, ◌⊎◌, Bool, true, false, List, [], ◌∷◌, ◌++◌, length, map, take, slice_get, Option, Some, None, IfSome, option_and_then, if◌then◌else◌}
 use Rattle.wc_base.specs.declared.who.By.{By}
 use Rattle.wc_base.specs.declared.who.By.TheVariants as by
 use Rattle.wc_base.specs.declared.who.Who.{Who}
@@ -19,8 +18,8 @@ use Rattle.script_types.specs.declared.steps.MediaStep.{MediaStep}
 use Rattle.script_types.specs.declared.steps.Step.{Step}
 use Rattle.script_types.specs.declared.steps.Step.TheVariants as step
 use Rattle.script_types.specs.declared.script.CallerItem.{CallerItem}
-use Rattle.media_variables.specs.Variables.{Medium, Media, Numbers, Came, Brought, next_numbers, with_last, media_came, variables_of, after_came}
-use Rattle.media_variables.specs.Held.{AreHeld, AreApart, clones_of, ends_behind}
+use Rattle.media_variables.specs.Variables.{Medium, Media, Numbers, Came, Received, Brought, next_numbers, with_last, media_came, variables_of, after_came}
+use Rattle.media_variables.specs.Held.{AreHeld, AreApart, MayReceive, clones_of, ends_behind}
 
 -- the step with this number of the caller with this number
 abbrev pub step_by : ℕ → ℕ → Who
@@ -90,9 +89,10 @@ abbrev pub variables_by : Option Came → List (Option Medium) → List (Option 
 variables_by None vs = vs
 variables_by (Some y) vs = y.variables
 
--- what a step does to the pool, if it does something
+-- what a step does to the pool, in order
 abbrev pub done_by : Option Came → List PoolOp
-done_by y = option_to_list (option_and_then (λ z. z.does) y)
+done_by None = []
+done_by (Some y) = y.does
 
 -- what was done by a caller's step with this number, where an end does not say whether it was the last
 pub record StepOp : Type 0 where
@@ -119,7 +119,7 @@ own_of came (suc n) = own_of came n ++ map (step_op n) (done_by (came n))
 -- `steps` has the steps of each caller, and `brought` what is given from elsewhere to a caller's step on media
 module _ (steps : ℕ → List Step) (brought : ℕ → ℕ → MediaStep → Brought) where
   -- What a step on media comes to, after these variables of its caller: numbers of resources and references are those in the
-  -- step's own entry.
+  -- step's own first entry.
   abbrev pub came_on : List PoolEntry → ℕ → ℕ → List (Option Medium) → Option Came
   came_on pool c j vs =
       option_and_then (λ x. media_came (numbers_of (ops_by c j pool)) (step_by c j) (brought c j x) x vs) (option_and_then media_of (slice_get (steps c) j))
@@ -156,6 +156,10 @@ pub record Lending : Type 0 where
   pub lends : ℕ → ℕ → List PoolOp
   pub holds : ℕ → List Pair
 
+-- no codec holds a reference of this number
+abbrev pub IsNoneOf : (ℕ → List Pair) → ℕ → Type 0
+IsNoneOf holds number = (k i : ℕ) (p : Pair) → slice_get (holds k) i ≡ Some p → p.reference ≢ number
+
 abbrev pub nothing_lent : Lending
 nothing_lent = record { lends = λ k place. []; holds = λ k. [] }
 
@@ -186,10 +190,14 @@ pub record StepStands (steps : ℕ → List Step) (brought : ℕ → ℕ → Med
   pub here : came_in steps brought (after_came (step_by c (made c)) y m).pool c (made c) ≡ Some y
   pub earlier : (d j : ℕ) → j < made d → came_in steps brought (after_came (step_by c (made c)) y m).pool d j ≡ came_in steps brought m.pool d j
 
+-- what a step receives holds no reference, or one that is live, and that no variable and no codec holds
+abbrev pub MayTakeIn : Media → (ℕ → List Pair) → Option Received → Type 0
+MayTakeIn m holds o = MayReceive m.pool m.variables o × IfSome o (λ p. IfSome p.medium.held (λ r. IsNoneOf holds r.number))
+
 abbrev pub StepsStand : Type 0
 StepsStand = (steps : ℕ → List Step) (brought : ℕ → ℕ → MediaStep → Brought) (codecs : Lending) (made more : ℕ → ℕ) (callers : ℕ) (m : Media) (c : ℕ) (x : MediaStep) (y : Came) →
     MediaStand steps brought codecs made callers m → c < callers → OneMore made more c → slice_get (steps c) (made c) ≡ Some (step.Media x) →
-    media_came (next_numbers m.pool) (step_by c (made c)) (brought c (made c) x) x (variables_of c m.variables) ≡ Some y →
+    MayTakeIn m codecs.holds (brought c (made c) x).received → media_came (next_numbers m.pool) (step_by c (made c)) (brought c (made c) x) x (variables_of c m.variables) ≡ Some y →
     StepStands steps brought codecs made more callers m c y
 
 abbrev pub OthersStand : Type 0

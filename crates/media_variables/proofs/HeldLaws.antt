@@ -1,7 +1,7 @@
 -- The references that variables hold stay live and apart in each step.
 use Rattle.std.proofs.Common.{ℕ, zero, suc, ◌<◌, ◌≡◌, ◌≢◌, ◌==◌, ◌⊎◌, Bool, true, false, if◌then◌else◌, List, [], ◌∷◌, ◌++◌, length, take, Option, Some, None, Result, Ok, Err, IfOk, OnErr, refl, ap, sym, subst, ◌∙◌, inl, inr, append-nil, eq-eqb, arith}
-use Rattle.std.specs.Prelude.{map, slice_set, option_map, IfSome}
-use Rattle.std.proofs.lemmas.Bool.{cases_eq, eqb-true, false_from_ne_true}
+use Rattle.std.specs.Prelude.{map, slice_set, option_map, option_and_then, IfSome}
+use Rattle.std.proofs.lemmas.Bool.{and_parts, cases_eq, eqb-true, false_from_ne_true}
 use Rattle.std.proofs.lemmas.List.{length-map}
 use Rattle.wc_base.specs.declared.who.Who.{Who}
 use Rattle.wc_base.specs.declared.who.By.TheVariants as by
@@ -21,6 +21,10 @@ use Rattle.wc_pool.specs.Laws.{LiveAreNumbered}
 use Rattle.wc_audio.specs.Sound as sound
 use Rattle.wc_video.specs.Frames as frames
 use Rattle.script_types.specs.declared.script.CallerItem.{CallerItem}
+use Rattle.array_buffers.specs.Transfers.{may_transfer}
+use Rattle.script_types.specs.declared.steps.InitShape.{InitShape}
+use Rattle.script_types.specs.declared.steps.InitShape.TheVariants as init_shape
+use Rattle.script_types.specs.declared.steps.BufferedInit.{BufferedInit}
 use Rattle.script_types.specs.declared.steps.SoundInit.{SoundInit}
 use Rattle.script_types.specs.declared.steps.PictureInit.{PictureInit}
 use Rattle.script_types.specs.declared.steps.MediaStep.{MediaStep}
@@ -29,13 +33,13 @@ use Rattle.script_types.specs.declared.options.Options.{Options}
 use Rattle.script_types.specs.declared.options.Options.TheVariants as options
 use Rattle.report_text.specs.declared.result.StepResult.{StepResult}
 use Rattle.report_text.specs.declared.result.StepResult.TheVariants as result
-use Rattle.media_variables.specs.Variables.{Reference, Shape, SoundOf, PictureOf, Medium, Media, Came, refused, entries_of, with_medium, detached, medium_at, variables_of, only_answers, makes, audio_came, frame_came, clone_held, transfer_held, close_held, if_there, is_last_of, next_numbers, chunk_of_variable, chunk_medium, copy_came, copy_chunk, copy_medium, size_of_medium, Taken, Brought, unit_came, taken_came, media_came, IsCome, CameTo}
-use Rattle.media_variables.specs.Held.{WholeMedium, AreOf, AreOnce, held_by, reference_at, reference_of, seen, seen_in, whole_held, IsLiveIn, AreHeld, StayHeld, media_of}
+use Rattle.media_variables.specs.Variables.{Reference, Shape, SoundOf, PictureOf, ChunkOf, BufferOf, Medium, Media, Came, refused, entry_behind, entries_of, with_medium, detached, without, buffer_of, buffer_in, buffer_at, is_open_buffer, bytes_in, steps_in, is_invalid_init, adopted_in, all_but, shape_over, adopts, init_makes, init_made, end_of, gone_at, lets_go, lets_all, post_held, Received, received_came, medium_at, variables_of, only_answers, makes, audio_came, frame_came, clone_held, transfer_held, close_held, if_there, is_last_of, next_numbers, chunk_of_variable, chunk_medium, copy_came, copy_chunk, copy_medium, size_of_medium, Taken, Brought, unit_came, taken_came, media_came, IsCome, CameTo}
+use Rattle.media_variables.specs.Held.{WholeMedium, AreOf, AreOnce, held_by, reference_at, reference_of, seen, seen_in, whole_held, IsLiveIn, AreHeld, IsFree, MayReceive, StayHeld, media_of}
 use Rattle.media_variables.specs.CameLaws.{taken_by_numbers, came_by_numbers}
-use Rattle.media_variables.specs.Given.{Acts}
+use Rattle.media_variables.specs.Given.{Acts, DoesAll, MakesNew}
 use Rattle.media_variables.proofs.Ends.{resource_more}
-use Rattle.media_variables.proofs.PoolLaws.{Reaches, act_reaches}
-use Rattle.media_variables.proofs.Places.{medium_here, medium_else, seen_at, variables_here, variables_else, variables_back, set_again, callers_set}
+use Rattle.media_variables.proofs.PoolLaws.{Reaches, act_reaches, entries_more}
+use Rattle.media_variables.proofs.Places.{medium_here, medium_else, changed_here, changed_else, seen_at, variables_here, variables_else, variables_back, set_again, callers_set}
 
 -- one variable of one caller changes
 pub record Puts (old new : List (List (Option Medium))) (k j : ℕ) (held : Option Reference) : Type 0 where
@@ -68,12 +72,34 @@ there_or l i k j =
 at_place : (all : List (List (Option Medium))) (l i k j : ℕ) → (l ≡ k) × (i ≡ j) → reference_at all l i ≡ reference_at all k j
 at_place all l i k j h = ap (λ (n : ℕ). reference_at all n i) h.0 ∙ ap (reference_at all k) h.1
 
--- no variable holds a reference of this number
-pub record IsFree (all : List (List (Option Medium))) (f : ℕ) : Type 0 where
-  pub none : (l i : ℕ) (s : Reference) → reference_at all l i ≡ Some s → s.number ≡ f → ⊥
+-- other variables of one caller, one of which changes
+puts_over : (all : List (List (Option Medium))) (k j : ℕ) (ws xs : List (Option Medium)) (held : Option Reference) → k < length all → held_by (medium_at xs j) ≡ held → ((i : ℕ) → (i ≡ j → ⊥) → medium_at xs i ≡ medium_at ws i) → Puts (slice_set all k ws) (slice_set all k xs) k j held
+puts_over all k j ws xs held lt here others =
+    let old = slice_set all k ws in
+    let new = slice_set all k xs in
+    record {
+      here = ap (λ (l : List (Option Medium)). held_by (medium_at l j)) (variables_here k xs all lt) ∙ here;
+      others = λ l i apart. elim (cases_eq l k) [
+        | inl same ↦
+            let now : variables_of l new ≡ xs = ap (λ (n : ℕ). variables_of n new) same ∙ variables_here k xs all lt in
+            let was : variables_of l old ≡ ws = ap (λ (n : ℕ). variables_of n old) same ∙ variables_here k ws all lt in
+            ap (λ (x : List (Option Medium)). held_by (medium_at x i)) now ∙ (ap held_by (others i (λ e. apart (same, e))) ∙ sym (ap (λ (x : List (Option Medium)). held_by (medium_at x i)) was))
+        | inr other ↦ ap (λ (x : List (Option Medium)). held_by (medium_at x i)) (variables_else k xs all l other ∙ sym (variables_else k ws all l other))
+      ];
+    }
+
+puts_medium : (all : List (List (Option Medium))) (k j : ℕ) (m : Medium) (ws : List (Option Medium)) → k < length all → Puts (slice_set all k ws) (slice_set all k (with_medium j m ws)) k j m.held
+puts_medium all k j m ws lt = puts_over all k j ws (with_medium j m ws) m.held lt (ap held_by (medium_here j m ws)) (λ i apart. medium_else j m ws i apart)
+
+pub detached_none : (v : Option Medium) → held_by (option_map detached v) ≡ None
+detached_none None = refl
+detached_none (Some m) = refl
+
+puts_without : (all : List (List (Option Medium))) (k j : ℕ) (ws : List (Option Medium)) → k < length all → Puts (slice_set all k ws) (slice_set all k (without j ws)) k j None
+puts_without all k j ws lt = puts_over all k j ws (without j ws) None lt (ap held_by (changed_here detached j ws) ∙ detached_none (medium_at ws j)) (λ i apart. changed_else detached j ws i apart)
 
 -- a variable that holds nothing more leaves the others as they are
-let_go : (pool : List PoolEntry) (old new : List (List (Option Medium))) (k j : ℕ) → Puts old new k j None → AreHeld pool old → AreHeld pool new
+pub let_go : (pool : List PoolEntry) (old new : List (List (Option Medium))) (k j : ℕ) → Puts old new k j None → AreHeld pool old → AreHeld pool new
 let_go pool old new k j p h =
     let was : (l i : ℕ) (r : Reference) → reference_at new l i ≡ Some r → reference_at old l i ≡ Some r = λ l i r e.
     elim (there_or l i k j) [
@@ -85,7 +111,7 @@ let_go pool old new k j p h =
       apart = λ l i m n r s e f same. h.apart l i m n r s (was l i r e) (was m n s f) same;
     }
 
-released : (pool : List PoolEntry) (old new : List (List (Option Medium))) (k j : ℕ) (r : Reference) → Puts old new k j None → AreHeld pool old → reference_at old k j ≡ Some r → IsFree new r.number
+pub released : (pool : List PoolEntry) (old new : List (List (Option Medium))) (k j : ℕ) (r : Reference) → Puts old new k j None → AreHeld pool old → reference_at old k j ≡ Some r → IsFree new r.number
 released pool old new k j r p h there = record {
   none = λ l i s e same. elim (there_or l i k j) [
     | inl here ↦ (let none = sym (at_place new l i k j here ∙ p.here) ∙ e in absurd cc)
@@ -147,14 +173,14 @@ minted_held numbered pool e r all legal m h =
     minted_others pool e r (references_made pool) s.number m (λ same. omega arith) ∙ lives) h
 
 -- what a step comes to keeps the references live and apart
-abbrev Keeps : List PoolEntry → Who → List (List (Option Medium)) → Came → Type 0
+abbrev pub Keeps : List PoolEntry → Who → List (List (Option Medium)) → Came → Type 0
 Keeps pool who all c = AreHeld (pool ++ entries_of pool who c.does) (slice_set all who.caller c.variables)
 
-record Has (pool : List PoolEntry) (who : Who) (all : List (List (Option Medium))) : Type 0 where
-  numbered : LiveAreNumbered
-  legal : is_legal_pool pool ≡ true
-  there : who.caller < length all
-  held : AreHeld pool all
+pub record Has (pool : List PoolEntry) (who : Who) (all : List (List (Option Medium))) : Type 0 where
+  pub numbered : LiveAreNumbered
+  pub legal : is_legal_pool pool ≡ true
+  pub there : who.caller < length all
+  pub held : AreHeld pool all
 
 keeps_all : (pool : List PoolEntry) (who : Who) (all : List (List (Option Medium))) (r : StepResult) → Has pool who all → Keeps pool who all (only_answers r (variables_of who.caller all))
 keeps_all pool who all r h =
@@ -246,7 +272,7 @@ KeepsIf pool who all None = Unit {0}
 KeepsIf pool who all (Some c) = Keeps pool who all c
 
 -- a chunk in a variable, which holds no reference
-keeps_chunk : (pool : List PoolEntry) (who : Who) (all : List (List (Option Medium))) (answer : StepResult) (chunk : Chunk) → Has pool who all → Keeps pool who all (record { answer = answer; variables = with_medium who.step (chunk_medium chunk) (variables_of who.caller all); does = None })
+keeps_chunk : (pool : List PoolEntry) (who : Who) (all : List (List (Option Medium))) (answer : StepResult) (chunk : Chunk) → Has pool who all → Keeps pool who all (record { answer = answer; variables = with_medium who.step (chunk_medium chunk) (variables_of who.caller all); does = [] })
 keeps_chunk pool who all answer chunk h =
     let new = slice_set all who.caller (with_medium who.step (chunk_medium chunk) (variables_of who.caller all)) in
     let p = puts all who.caller who.step (chunk_medium chunk) h.there in
@@ -257,24 +283,134 @@ keeps_unit pool who all answer (unit.Sound s) h = keeps_made pool who all (Sound
 keeps_unit pool who all answer (unit.Image p) h = keeps_made pool who all (PictureOf p.shape) p.bytes h
 keeps_unit pool who all answer (unit.Coded chunk config) h = keeps_chunk pool who all answer chunk h
 
+-- ---- buffers
+
+holds_in : (shape : Shape) (held : Option Reference) (r : Reference) → buffer_of shape held ≡ Some r → held ≡ Some r
+holds_in BufferOf held r e = e
+holds_in (SoundOf shape) held r e = absurd cc
+holds_in (PictureOf shape) held r e = absurd cc
+holds_in (ChunkOf chunk) held r e = absurd cc
+
+-- a buffer's reference is its variable's
+pub buffer_holds : (v : Option Medium) (r : Reference) → option_and_then buffer_in v ≡ Some r → held_by v ≡ Some r
+buffer_holds None r e = absurd cc
+buffer_holds (Some m) r e = holds_in m.shape m.held r e
+
+pub buffer_there : (all : List (List (Option Medium))) (k j : ℕ) (ws : List (Option Medium)) (r : Reference) → k < length all → buffer_at ws j ≡ Some r → reference_at (slice_set all k ws) k j ≡ Some r
+buffer_there all k j ws r lt is = ap (λ (x : List (Option Medium)). held_by (medium_at x j)) (variables_here k ws all lt) ∙ buffer_holds (medium_at ws j) r is
+
+-- a buffer that is let go, if it was open
+ended_go : (pool : List PoolEntry) (who : Who) (all : List (List (Option Medium))) (j : ℕ) (ws : List (Option Medium)) (os : List PoolOp) (o : Option Reference) → who.caller < length all → buffer_at ws j ≡ o
+    → AreHeld (pool ++ entries_of pool who os) (slice_set all who.caller ws) → AreHeld (pool ++ entries_of pool who (os ++ end_of o)) (slice_set all who.caller (gone_at o j ws))
+ended_go pool who all j ws os None lt is h = subst (λ (x : List PoolOp). AreHeld (pool ++ entries_of pool who x) (slice_set all who.caller ws)) (sym (append-nil os)) h
+ended_go pool who all j ws os (Some r) lt is h =
+    let k = who.caller in
+    let now = pool ++ entries_of pool who os in
+    let old = slice_set all k ws in
+    let new = slice_set all k (without j ws) in
+    let p = puts_without all k j ws lt in
+    let rest = let_go now old new k j p h in
+    let free = released now old new k j r p h (buffer_there all k j ws r lt is) in
+    let o = op.End r.resource r.number false in
+    let e = entry_behind now who o in
+    let ended : AreHeld (now ++ e ∷ []) new = carried now (now ++ e ∷ []) new (λ l i s at lives.
+    resource_more s.number now e ∙ ap (λ (b : Bool). if b then None else resource_of s.number now) (other_test r.number s.number (λ same. free.none l i s at (sym same))) ∙ lives) rest in
+    subst (λ (x : List PoolEntry). AreHeld x new) (sym (entries_more pool who os o)) ended
+
+pub keeps_go : (pool : List PoolEntry) (who : Who) (all : List (List (Option Medium))) (j : ℕ) (c : Came) → Has pool who all → Keeps pool who all c → Keeps pool who all (lets_go j c)
+keeps_go pool who all j c h keeps = ended_go pool who all j c.variables c.does (buffer_at c.variables j) h.there refl keeps
+
+keeps_all_go : (pool : List PoolEntry) (who : Who) (all : List (List (Option Medium))) (js : List ℕ) (c : Came) → Has pool who all → Keeps pool who all c → Keeps pool who all (lets_all js c)
+keeps_all_go pool who all [] c h keeps = keeps
+keeps_all_go pool who all (j ∷ js) c h keeps = keeps_all_go pool who all js (lets_go j c) h (keeps_go pool who all j c h keeps)
+
+-- the variables of a caller without one reference
+pub puts_less : (all : List (List (Option Medium))) (k j : ℕ) → k < length all → Puts all (slice_set all k (without j (variables_of k all))) k j None
+puts_less all k j lt =
+    subst (λ (x : List (List (Option Medium))). Puts x (slice_set all k (without j (variables_of k all))) k j None) (variables_back k all) (puts_without all k j (variables_of k all) lt)
+
+-- a medium over the reference of a buffer, which is detached
+adopted_held : (pool : List PoolEntry) (who : Who) (all : List (List (Option Medium))) (shape : Shape) (j : ℕ) (held : Option Reference) → Has pool who all → buffer_at (variables_of who.caller all) j ≡ held
+    → AreHeld pool (slice_set all who.caller (with_medium who.step (record { shape = shape; held = held }) (without j (variables_of who.caller all))))
+adopted_held pool who all shape j None h is =
+    let k = who.caller in
+    let vs = without j (variables_of k all) in
+    let m : Medium = record { shape = shape; held = None } in
+    let_go pool (slice_set all k vs) (slice_set all k (with_medium who.step m vs)) k who.step (puts_medium all k who.step m vs h.there) (let_go pool all (slice_set all k vs) k j (puts_less all k j h.there) h.held)
+adopted_held pool who all shape j (Some r) h is =
+    let k = who.caller in
+    let vs = without j (variables_of k all) in
+    let less = slice_set all k vs in
+    let m : Medium = record { shape = shape; held = Some r } in
+    let p = puts_less all k j h.there in
+    let at : reference_at all k j ≡ Some r = buffer_holds (medium_at (variables_of k all) j) r is in
+    taken pool less (slice_set all k (with_medium who.step m vs)) k who.step r (puts_medium all k who.step m vs h.there) (let_go pool all less k j p h.held) (h.held.live k j r at) (released pool all less k j r p h.held at)
+
+keeps_makes : (pool : List PoolEntry) (who : Who) (all : List (List (Option Medium))) (shape : InitShape) (bytes : List ℕ) → Has pool who all → Keeps pool who all (init_makes (next_numbers pool) who.step shape bytes (variables_of who.caller all))
+keeps_makes pool who all (init_shape.Chunk key timestamp duration) bytes h = keeps_chunk pool who all (result.Local None) (record { key = key; timestamp = timestamp; duration = duration; bytes = bytes }) h
+keeps_makes pool who all (init_shape.Sound shape) bytes h = keeps_made pool who all (SoundOf shape) (take (sound.needed shape) bytes) h
+keeps_makes pool who all (init_shape.Picture shape) bytes h = keeps_made pool who all (PictureOf shape) (take (picture_size shape) bytes) h
+
+pub keeps_init : (pool : List PoolEntry) (who : Who) (all : List (List (Option Medium))) (i : BufferedInit) (k : Option ℕ) → Has pool who all → Keeps pool who all (init_made (next_numbers pool) who.step i k (variables_of who.caller all))
+keeps_init pool who all i None h = keeps_makes pool who all i.shape (bytes_in i.content (variables_of who.caller all)) h
+keeps_init pool who all i (Some k) h =
+    let vs = variables_of who.caller all in
+    subst (λ (x : List PoolEntry). AreHeld x (slice_set all who.caller (adopts who.step i.shape k vs).variables)) (sym (append-nil pool)) (adopted_held pool who all (shape_over i.shape) k (buffer_at vs k) h refl)
+
+keeps_buffered : (pool : List PoolEntry) (who : Who) (all : List (List (Option Medium))) (i : BufferedInit) → Has pool who all → (invalid may : Bool)
+    → Keeps pool who all (if invalid then only_answers (refused dom.TypeErr) (variables_of who.caller all)
+    else if may then lets_all (all_but (adopted_in i) (steps_in i.transfer)) (init_made (next_numbers pool) who.step i (adopted_in i) (variables_of who.caller all)) else only_answers (refused dom.DataClone) (variables_of who.caller all))
+keeps_buffered pool who all i h true may = keeps_all pool who all (refused dom.TypeErr) h
+keeps_buffered pool who all i h false false = keeps_all pool who all (refused dom.DataClone) h
+keeps_buffered pool who all i h false true = keeps_all_go pool who all (all_but (adopted_in i) (steps_in i.transfer)) _ h (keeps_init pool who all i (adopted_in i) h)
+
+-- ---- ports
+
+keeps_post : (pool : List PoolEntry) (who : Who) (all : List (List (Option Medium))) (of : ℕ) (held : Option Reference) → Has pool who all → Keeps pool who all (post_held of held (variables_of who.caller all))
+keeps_post pool who all of None h = keeps_all pool who all (refused dom.DataClone) h
+keeps_post pool who all of (Some r) h =
+    let new = slice_set all who.caller (without of (variables_of who.caller all)) in
+    subst (λ (x : List PoolEntry). AreHeld x new) (sym (append-nil pool)) (let_go pool all new who.caller of (puts_less all who.caller of h.there) h.held)
+
+pub received_held : (pool : List PoolEntry) (k j : ℕ) (all : List (List (Option Medium))) (m : Medium) (held : Option Reference) → m.held ≡ held → k < length all → AreHeld pool all → IfSome held (λ r. IsLiveIn pool r × IsFree all r.number) → AreHeld pool (slice_set all k (with_medium j m (variables_of k all)))
+received_held pool k j all m None is there h may =
+    let new = slice_set all k (with_medium j m (variables_of k all)) in
+    let_go pool all new k j (subst (Puts all new k j) is (puts all k j m there)) h
+received_held pool k j all m (Some r) is there h may =
+    let new = slice_set all k (with_medium j m (variables_of k all)) in
+    taken pool all new k j r (subst (Puts all new k j) is (puts all k j m there)) h may.0 may.1
+
+keeps_receive : (pool : List PoolEntry) (who : Who) (all : List (List (Option Medium))) (o : Option Received) → Has pool who all → MayReceive pool all o → Keeps pool who all (received_came who.step o (variables_of who.caller all))
+keeps_receive pool who all None h may = keeps_all pool who all result.Nothing h
+keeps_receive pool who all (Some p) h may =
+    let new = slice_set all who.caller (with_medium who.step p.medium (variables_of who.caller all)) in
+    subst (λ (x : List PoolEntry). AreHeld x new) (sym (append-nil pool)) (received_held pool who.caller who.step all p.medium p.medium.held refl h.there h.held may)
+
 keeps_taken : (pool : List PoolEntry) (who : Who) (all : List (List (Option Medium))) (t : Option Taken) → Has pool who all → KeepsIf pool who all (taken_came (next_numbers pool) who.step t (variables_of who.caller all))
 keeps_taken pool who all None h = tt
 keeps_taken pool who all (Some t) h = keeps_unit pool who all t.answer t.unit h
 
-keeps_step : (pool : List PoolEntry) (who : Who) (all : List (List (Option Medium))) (b : Brought) (step : MediaStep) → Has pool who all → KeepsIf pool who all (media_came (next_numbers pool) who b step (variables_of who.caller all))
-keeps_step pool who all b (media.Audio bind init) h = keeps_audio pool who all init h
-keeps_step pool who all b (media.Frame bind init) h = keeps_frame pool who all init h
-keeps_step pool who all b (media.Encode on content) h = tt
-keeps_step pool who all b (media.Take on bind kind) h = keeps_taken pool who all b.taken h
-keeps_step pool who all b (media.Clone of bind) h =
+keeps_step : (pool : List PoolEntry) (who : Who) (all : List (List (Option Medium))) (b : Brought) (step : MediaStep) → Has pool who all → MayReceive pool all b.received → KeepsIf pool who all (media_came (next_numbers pool) who b step (variables_of who.caller all))
+keeps_step pool who all b (media.Audio bind init) h may = keeps_audio pool who all init h
+keeps_step pool who all b (media.Frame bind init) h may = keeps_frame pool who all init h
+keeps_step pool who all b (media.Buffer bind content) h may = keeps_made pool who all BufferOf content h
+keeps_step pool who all b (media.Buffered bind i) h may =
+    let vs = variables_of who.caller all in
+    keeps_buffered pool who all i h (is_invalid_init i.shape (length (bytes_in i.content vs))) (may_transfer (is_open_buffer vs) (steps_in i.transfer))
+keeps_step pool who all b (media.Encode on content) h may = tt
+keeps_step pool who all b (media.Take on bind kind) h may = keeps_taken pool who all b.taken h
+keeps_step pool who all b (media.Clone of bind) h may =
     keeps_if_there pool who all (medium_at (variables_of who.caller all) of.step) _ h (λ m e. keeps_clone pool who all m.shape m.held h)
-keeps_step pool who all b (media.Transfer of bind) h =
+keeps_step pool who all b (media.Transfer of bind) h may =
     keeps_if_there pool who all (medium_at (variables_of who.caller all) of.step) _ h (λ m e. keeps_transfer pool who all of.step m m.held h refl (ap held_by e))
-keeps_step pool who all b (media.CloseData of) h =
+keeps_step pool who all b (media.CloseData of) h may =
     keeps_if_there pool who all (medium_at (variables_of who.caller all) of.step) _ h (λ m e. keeps_close pool who all of.step m m.held h (ap held_by e))
-keeps_step pool who all b (media.Copy of o size) h = keeps_copy pool who all b.chunk of.step o size h
-keeps_step pool who all b (media.Size of o) h =
+keeps_step pool who all b (media.Copy of o size) h may = keeps_copy pool who all b.chunk of.step o size h
+keeps_step pool who all b (media.Size of o) h may =
     keeps_if_there pool who all (medium_at (variables_of who.caller all) of.step) _ h (λ m e. keeps_all pool who all (size_of_medium m o) h)
+keeps_step pool who all b (media.Post to content) h may =
+    keeps_if_there pool who all (medium_at (variables_of who.caller all) content.step) _ h (λ m e. keeps_post pool who all content.step m.held h)
+keeps_step pool who all b (media.Receive from bind kind) h may = keeps_receive pool who all b.received h may
 
 unchanged : (pool new : List PoolEntry) (who : Who) (all : List (List (Option Medium))) (after : List (Option Medium)) → AreHeld pool all → new ≡ pool → after ≡ variables_of who.caller all → AreHeld new (slice_set all who.caller after)
 unchanged pool new who all after h same back =
@@ -295,20 +431,20 @@ came_held pool new who all vs after came (Err e) h keeps is ok same back = uncha
 
 -- a step was made, or memory was wanted
 abbrev pub HasActed : Who → List PoolEntry → List PoolEntry → Brought → MediaStep → List (Option Medium) → List (Option Medium) → Option StepResult → Type 0
-HasActed who pool new b step vs after answer = Acts (Adds pool new) (new ≡ pool) who (λ n. media_came n who b step vs) vs after answer
+HasActed who pool new b step vs after answer = Acts (DoesAll Adds who pool new) (λ n. media_came n who b step vs) vs after answer
 
 acted : (pool new : List PoolEntry) (who : Who) (vs after : List (Option Medium)) (b : Brought) (step : MediaStep) (r : Result (Option StepResult) NoMemory) → IfOk r (HasActed who pool new b step vs after) → IfOk r (Reaches who pool new vs after (media_came (next_numbers pool) who b step vs))
 acted pool new who vs after b step (Ok answer) ok = act_reaches who pool new vs after _ answer (came_by_numbers who b step vs) ok
 acted pool new who vs after b step (Err e) ok = tt
 
-pub step_held : LiveAreNumbered → (pool new : List PoolEntry) (who : Who) (all : List (List (Option Medium))) (vs after : List (Option Medium)) (b : Brought) (step : MediaStep) (r : Result (Option StepResult) NoMemory) → is_legal_pool pool ≡ true → who.caller < length all → AreHeld pool all → variables_of who.caller all ≡ vs → IfOk r (HasActed who pool new b step vs after) → OnErr r (new ≡ pool) → OnErr r (after ≡ vs) → AreHeld new (slice_set all who.caller after)
-step_held numbered pool new who all vs after b step r legal there h is ok same back =
+pub step_held : LiveAreNumbered → (pool new : List PoolEntry) (who : Who) (all : List (List (Option Medium))) (vs after : List (Option Medium)) (b : Brought) (step : MediaStep) (r : Result (Option StepResult) NoMemory) → is_legal_pool pool ≡ true → who.caller < length all → AreHeld pool all → MayReceive pool all b.received → variables_of who.caller all ≡ vs → IfOk r (HasActed who pool new b step vs after) → OnErr r (new ≡ pool) → OnErr r (after ≡ vs) → AreHeld new (slice_set all who.caller after)
+step_held numbered pool new who all vs after b step r legal there h may is ok same back =
     let has : Has pool who all = record { numbered = numbered; legal = legal; there = there; held = h } in
-    came_held pool new who all vs after (λ x. media_came (next_numbers pool) who b step x) r h (keeps_step pool who all b step has) is (acted pool new who vs after b step r ok) same back
+    came_held pool new who all vs after (λ x. media_came (next_numbers pool) who b step x) r h (keeps_step pool who all b step has may) is (acted pool new who vs after b step r ok) same back
 
 -- an output was taken, or memory was wanted
 abbrev pub HasTaken : Who → List PoolEntry → List PoolEntry → Taken → List (Option Medium) → List (Option Medium) → StepResult → Type 0
-HasTaken who pool new t vs after r = Acts (Adds pool new) (new ≡ pool) who (λ n. taken_came n who.step (Some t) vs) vs after (Some r)
+HasTaken who pool new t vs after r = Acts (DoesAll Adds who pool new) (λ n. taken_came n who.step (Some t) vs) vs after (Some r)
 
 took : (pool new : List PoolEntry) (who : Who) (vs after : List (Option Medium)) (t : Taken) (r : StepResult) → HasTaken who pool new t vs after r → Reaches who pool new vs after (taken_came (next_numbers pool) who.step (Some t) vs) (Some r)
 took pool new who vs after t r h = act_reaches who pool new vs after _ (Some r) (taken_by_numbers who.step (Some t) vs) h
@@ -342,8 +478,8 @@ take_came pool new who all vs after t (Err e) is ok = tt
 
 -- the same of what a step on media came to
 pub stays_held : LiveAreNumbered → StayHeld
-stays_held numbered pool who all b step y legal there h is =
-    subst (KeepsIf pool who all) is (keeps_step pool who all b step (record { numbered = numbered; legal = legal; there = there; held = h }))
+stays_held numbered pool who all b step y legal there h may is =
+    subst (KeepsIf pool who all) is (keeps_step pool who all b step (record { numbered = numbered; legal = legal; there = there; held = h }) may)
 
 no_reference : (callers : List CallerItem) (k j : ℕ) → reference_at (map (λ c. []) callers) k j ≡ None
 no_reference [] k j = refl
@@ -387,6 +523,13 @@ pub caller_once : (pool : List PoolEntry) (all : List (List (Option Medium))) (k
 caller_once pool all k vs is h =
     let own : AreOnce (variables_of k all) = record { once = λ i j r q here there same. (h.apart k i k j r q here there same).1 } in
     subst AreOnce is own
+
+-- a reference that a pool makes has another number than those that are live
+pub made_new : LiveAreNumbered → (pool : List PoolEntry) → is_legal_pool pool ≡ true → MakesNew Adds IsLive pool
+made_new numbered pool legal = λ new cause r f added q lives.
+    let next = eqb-true f (references_made pool) (and_parts (r == resources_made pool) (f == references_made pool) added.next).1 in
+    let lt = (numbered pool q.number q.resource legal lives).0 in
+    λ same. omega (arith, next, lt, same)
 
 -- what is seen as it was, put back
 pub put_back : (k : ℕ) (all : List (List (Option WholeMedium))) (vs after : List (Option WholeMedium)) → variables_of k (map seen_in all) ≡ seen_in vs → seen_in after ≡ seen_in vs → map seen_in (slice_set all k after) ≡ map seen_in all

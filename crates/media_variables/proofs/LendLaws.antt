@@ -101,7 +101,7 @@ lent_new numbered pool new all cause medium x legal held h =
     let mints = lent_mints pool new cause medium x h in
     subst (λ (l : List PoolEntry). AreHeld l all) (sym h.history) (minted_held numbered pool (lent_entry cause x.1) x.1.resource all legal mints held)
 
-only_one : (p q : Pair) (i : ℕ) → slice_get (p ∷ []) i ≡ Some q → (i ≡ 0) × (q ≡ p)
+pub only_one : (p q : Pair) (i : ℕ) → slice_get (p ∷ []) i ≡ Some q → (i ≡ 0) × (q ≡ p)
 only_one p q zero h = (refl, cc)
 only_one p q (suc i) h = absurd cc
 

@@ -1,3 +1,4 @@
+pub mod BufferLaws
 pub mod CopyLaws
 pub mod Ends
 pub mod HeldLaws
@@ -7,4 +8,5 @@ pub mod Made
 pub mod OfLaws
 pub mod Places
 pub mod PoolLaws
+pub mod PortLaws
 pub mod StepLaws

@@ -17,15 +17,20 @@ use Rattle.wc_pool.specs.declared.reference.MediaRef.{MediaRef}
 use Rattle.wc_pool.specs.Pools.{made_by, cloned_by, with_token, IsCloneOf}
 use Rattle.wc_audio.specs.Sound as sound
 use Rattle.wc_video.specs.Frames as frames
+use Rattle.array_buffers.specs.Buffers as buffers
+use Rattle.wc_base.specs.declared.media.SoundShape.{SoundShape}
+use Rattle.wc_base.specs.declared.media.PictureShape.{PictureShape}
+use Rattle.script_types.specs.declared.steps.InitShape.{InitShape}
+use Rattle.script_types.specs.declared.steps.InitShape.TheVariants as init_shape
 use Rattle.script_types.specs.declared.steps.SoundInit.{SoundInit}
 use Rattle.script_types.specs.declared.steps.PictureInit.{PictureInit}
 use Rattle.report_text.specs.declared.result.StepResult.{StepResult}
 use Rattle.report_text.specs.declared.result.StepResult.TheVariants as result
 use Rattle.media_variables.specs.declared.given.Given.{Given}
 use Rattle.media_variables.specs.declared.medium.Kind.TheVariants as kind
-use Rattle.media_variables.specs.Variables.{Shape, SoundOf, PictureOf, Medium, Numbers, chunk_medium, refused}
+use Rattle.media_variables.specs.Variables.{Reference, Shape, SoundOf, PictureOf, ChunkOf, BufferOf, Medium, Numbers, chunk_medium, refused, shape_over}
 use Rattle.media_variables.specs.Held.{WholeMedium, reference_of, whole_of, seen}
-use Rattle.media_variables.specs.Given.{Done, Does, Gives, gives_nothing, made_done, with_answer, audio_done, frame_done, taken_done, cloned_done, clone_done, closed_op}
+use Rattle.media_variables.specs.Given.{Done, Does, Gives, gives, gives_nothing, made_done, with_answer, audio_done, frame_done, buffer_done, init_done, adopted_done, taken_done, cloned_done, clone_done, closed_op}
 
 -- ---- references, without the token and the key of a pool
 
@@ -46,12 +51,18 @@ module _ (lasting : MediaRef → MediaRef) (lasts : (r q : MediaRef) → lasting
       let held : option_map reference_of s.held ≡ option_map reference_of t.held = seen_held lasting lasts s.held t.held (ap (λ (x : frames.Frame). x.held) same) in
       λ i. record { shape = PictureOf ((same i).shape); held = held i }
 
+  pub seen_buffer_same : (s t : Option MediaRef) → option_map lasting s ≡ option_map lasting t → seen (whole_of (kind.Buffer s)) ≡ seen (whole_of (kind.Buffer t))
+  seen_buffer_same s t same = ap (λ (o : Option Reference). record { shape = BufferOf; held = o }) (seen_held lasting lasts s t same)
+
 -- ---- what is given
 
-abbrev given_of : StepResult → Option WholeMedium → Given
+abbrev pub given_of : StepResult → Option WholeMedium → Given
 given_of r m = record { answer = r; medium = m }
 
 module _ (adds : PoolEntry → Type 0) (same : Type 0) (who : Who) where
+  same_given : (f : Numbers → Done) (g h : Given) → g ≡ h → Gives adds same who f h → Gives adds same who f g
+  same_given f g h is x = subst (Gives adds same who f) (sym is) x
+
   -- where nothing is given, nothing was done
   pub nothing_gives : (r : StepResult) → same → Gives adds same who (λ n. gives_nothing r) (given_of r None)
   nothing_gives r here = record { numbers = record { resource = 0; reference = 0 }; answered = refl; medium = refl; does = here }
@@ -112,6 +123,41 @@ module _ (adds : PoolEntry → Type 0) (same : Type 0) (who : Who) where
       subst (λ (x : frames.Frame). Gives adds same who (frame_done (Some i)) (given_of (result.Local None) (Some (whole_of (kind.Frame x))))) (sym made.is)
       (gives_as _ _ _ (λ n. frame_is i false valid _ n refl) (made_gives (result.Local None) (PictureOf i.shape) (take (picture_size i.shape) i.content) made.reference made.added made.same_bytes))
 
+  pub buffer_made : (bytes : List ℕ) (b : Option MediaRef) (g : Given) → g ≡ given_of (result.Local None) (Some (whole_of (kind.Buffer b))) → buffers.IsMadeBy adds (by.Caller who) bytes b → Gives adds same who (buffer_done bytes) g
+  buffer_made bytes b g is made =
+      let given = subst (λ (x : Option MediaRef). Gives adds same who (buffer_done bytes) (given_of (result.Local None) (Some (whole_of (kind.Buffer x))))) (sym made.is)
+      (made_gives (result.Local None) BufferOf bytes made.reference made.added made.same_bytes) in
+      same_given (buffer_done bytes) g _ is given
+
+  -- audio data and a frame of an init
+  pub sound_init : (shape : SoundShape) (bytes : List ℕ) (s : sound.Sound) (g : Given) → g ≡ given_of (result.Local None) (Some (whole_of (kind.Audio s))) → sound.IsMadeBy adds (by.Caller who) shape (take (sound.needed shape) bytes) s
+      → Gives adds same who (init_done (init_shape.Sound shape) bytes) g
+  sound_init shape bytes s g is made =
+      let given = subst (λ (x : sound.Sound). Gives adds same who (init_done (init_shape.Sound shape) bytes) (given_of (result.Local None) (Some (whole_of (kind.Audio x))))) (sym made.is)
+      (made_gives (result.Local None) (SoundOf shape) (take (sound.needed shape) bytes) made.reference made.added made.same_bytes) in
+      same_given (init_done (init_shape.Sound shape) bytes) g _ is given
+
+  pub picture_init : (shape : PictureShape) (bytes : List ℕ) (s : frames.Frame) (g : Given) → g ≡ given_of (result.Local None) (Some (whole_of (kind.Frame s))) → frames.IsMadeBy adds (by.Caller who) shape (take (picture_size shape) bytes) s
+      → Gives adds same who (init_done (init_shape.Picture shape) bytes) g
+  picture_init shape bytes s g is made =
+      let given = subst (λ (x : frames.Frame). Gives adds same who (init_done (init_shape.Picture shape) bytes) (given_of (result.Local None) (Some (whole_of (kind.Frame x))))) (sym made.is)
+      (made_gives (result.Local None) (PictureOf shape) (take (picture_size shape) bytes) made.reference made.added made.same_bytes) in
+      same_given (init_done (init_shape.Picture shape) bytes) g _ is given
+
+  -- of a shape that was read
+  pub init_as : (shape x : InitShape) (bytes : List ℕ) (g : Given) → shape ≡ x → Gives adds same who (init_done x bytes) g → Gives adds same who (init_done shape bytes) g
+  init_as shape x bytes g is h = subst (λ (y : InitShape). Gives adds same who (init_done y bytes) g) (sym is) h
+
+  -- a medium over the reference of a buffer
+  pub adopted_gives : (shape : InitShape) (r : MediaRef) (held : Option Reference) (g : Given) → Some (reference_of r) ≡ held → g ≡ given_of (result.Local None) (Some (record { shape = shape_over shape; held = Some r })) → same → Gives adds same who (λ n. adopted_done shape held) g
+  adopted_gives shape r held g is there here =
+      same_given (λ n. adopted_done shape held) g _ there (record {
+        numbers = record { resource = 0; reference = 0 };
+        answered = refl;
+        medium = ap (λ (o : Option Reference). Some (record { shape = shape_over shape; held = o })) is;
+        does = here;
+      })
+
   -- ---- a clone
 
   cloned_gives : (shape : Shape) (was r : MediaRef) → adds (cloned_by (by.Caller who) r) → IsCloneOf was r
@@ -138,6 +184,12 @@ module _ (adds : PoolEntry → Type 0) (same : Type 0) (who : Who) where
       subst (λ (x : frames.Frame). Gives adds same who (clone_done (Some (seen (whole_of (kind.Frame old))))) (given_of (result.Local None) (Some (whole_of (kind.Frame x))))) (sym made.is)
       (held_gives (PictureOf old.shape) old.held made.was _ made.held (cloned_gives (PictureOf old.shape) made.was made.reference made.added made.clone))
 
+  buffer_cloned : (old b : Option MediaRef) → buffers.IsCloneBy adds (by.Caller who) old b
+      → Gives adds same who (clone_done (Some (seen (whole_of (kind.Buffer old))))) (given_of (result.Local None) (Some (whole_of (kind.Buffer b))))
+  buffer_cloned old b made =
+      subst (λ (x : Option MediaRef). Gives adds same who (clone_done (Some (seen (whole_of (kind.Buffer old))))) (given_of (result.Local None) (Some (whole_of (kind.Buffer x))))) (sym made.is)
+      (held_gives BufferOf old made.was _ made.held (cloned_gives BufferOf made.was made.reference made.added made.clone))
+
   pub detached_gives : (shape : Shape) (held : Option MediaRef) → held ≡ None → same → Gives adds same who (cloned_done shape (option_map reference_of held)) (given_of (refused dom.InvalidState) None)
   detached_gives shape held is here = subst (λ (o : Option MediaRef). Gives adds same who (cloned_done shape (option_map reference_of o)) (given_of (refused dom.InvalidState) None)) (sym is) (nothing_gives (refused dom.InvalidState) here)
 
@@ -151,10 +203,11 @@ module _ (adds : PoolEntry → Type 0) (same : Type 0) (who : Who) where
   frame_closed None last h = h.0
   frame_closed (Some r) last h = (last, h)
 
-  -- ---- as calls answer
+  pub buffer_closed : (held : Option MediaRef) (last : Bool) → buffers.Closes adds same (by.Caller who) held last → Does adds same who (closed_op (option_map reference_of held))
+  buffer_closed None last h = h.0
+  buffer_closed (Some r) last h = (last, h)
 
-  same_given : (f : Numbers → Done) (g h : Given) → g ≡ h → Gives adds same who f h → Gives adds same who f g
-  same_given f g h is x = subst (Gives adds same who f) (sym is) x
+  -- ---- as calls answer
 
   -- a refused step, whatever it was refused with
   refused_given : (f : Numbers → Done) (g : Given) (e d : DomError) → e ≡ d → g ≡ given_of (refused e) None → Gives adds same who f (given_of (refused d) None) → Gives adds same who f g
@@ -207,6 +260,13 @@ module _ (adds : PoolEntry → Type 0) (same : Type 0) (who : Who) where
       same_given f g (given_of answer (Some (whole_of (kind.Chunk chunk)))) there
       (gives_as (λ n. d) f (given_of answer (Some (whole_of (kind.Chunk chunk)))) (λ n. sym (is n)) (record { numbers = record { resource = 0; reference = 0 }; answered = refl; medium = refl; does = here }))
 
+  -- a chunk of an init
+  pub chunk_init : (shape : InitShape) (content : List ℕ) (chunk : Chunk) (g : Given) → shape ≡ init_shape.Chunk chunk.key chunk.timestamp chunk.duration → chunk.bytes ≡ content → g ≡ given_of (result.Local None) (Some (whole_of (kind.Chunk chunk))) → same → Gives adds same who (init_done shape content) g
+  chunk_init shape content chunk g is bytes there here =
+      chunk_given (init_done shape content) (result.Local None) chunk g (λ n. (
+      let made = ap (λ (x : InitShape). init_done x content n) is in
+      made ∙ ap (λ (l : List ℕ). gives (record { shape = ChunkOf (record { key = chunk.key; timestamp = chunk.timestamp; duration = chunk.duration; bytes = l }); held = None }) None) (sym bytes))) there here
+
   -- ---- clones
 
   pub sound_cloned_by : (old s : sound.Sound) (g : Given) → g ≡ given_of (result.Local None) (Some (whole_of (kind.Audio s))) → sound.IsCloneBy adds (by.Caller who) old s → Gives adds same who (clone_done (Some (seen (whole_of (kind.Audio old))))) g
@@ -214,6 +274,9 @@ module _ (adds : PoolEntry → Type 0) (same : Type 0) (who : Who) where
 
   pub frame_cloned_by : (old s : frames.Frame) (g : Given) → g ≡ given_of (result.Local None) (Some (whole_of (kind.Frame s))) → frames.IsCloneBy adds (by.Caller who) old s → Gives adds same who (clone_done (Some (seen (whole_of (kind.Frame old))))) g
   frame_cloned_by old s g is made = same_given _ g _ is (frame_cloned old s made)
+
+  pub buffer_cloned_by : (old b : Option MediaRef) (g : Given) → g ≡ given_of (result.Local None) (Some (whole_of (kind.Buffer b))) → buffers.IsCloneBy adds (by.Caller who) old b → Gives adds same who (clone_done (Some (seen (whole_of (kind.Buffer old))))) g
+  buffer_cloned_by old b g is made = same_given _ g _ is (buffer_cloned old b made)
 
   -- what is detached already
   pub not_cloned : (m : WholeMedium) (e : DomError) (g : Given) → m.held ≡ None → e ≡ dom.InvalidState → g ≡ given_of (refused e) None → same → Gives adds same who (clone_done (Some (seen m))) g

@@ -2,13 +2,14 @@
 use Rattle.std.proofs.Common.{ℕ, zero, suc, ◌≡◌, ◌≢◌, ◌<◌, inl, inr, List, [], ◌∷◌, length, get_or, Option, Some, None, refl, ap, sym, subst, ◌∙◌}
 use Rattle.std.specs.Prelude.{slice_set, option_map, IfSome}
 use Rattle.std.proofs.lemmas.Bool.{cases_eq}
+use Rattle.std.proofs.lemmas.Option.{same_Some}
 use Rattle.wc_pool.specs.declared.reference.MediaRef.{MediaRef}
 use Rattle.wc_pool.specs.Pools.{KeepsAll}
 use Rattle.wc_audio.specs.Sound.{KeepsButHeld}
 use Rattle.media_variables.specs.declared.given.Given.{Given}
-use Rattle.media_variables.specs.Variables.{medium_at, with_medium}
+use Rattle.media_variables.specs.Variables.{Reference, changed_at, medium_at, with_medium}
 use Rattle.media_variables.specs.Held.{WholeMedium, AreOf, StayOf, reference_of, seen, seen_in, without_reference, whole_held, held_by}
-use Rattle.media_variables.specs.Given.{changed_at, given_to, transferred, transferred_at}
+use Rattle.media_variables.specs.Given.{given_to, transferred, transferred_at}
 use Rattle.media_variables.proofs.Places.{medium_read, medium_here, medium_else, changed_here, changed_else, seen_at}
 
 if_kept : (was now : MediaRef → Type 0) → KeepsAll was now → (o : Option MediaRef) → IfSome o was → IfSome o now
@@ -86,6 +87,15 @@ module _ (is_of : MediaRef → Type 0) where
 whole_seen : (v : Option WholeMedium) (q : MediaRef) → whole_held v ≡ Some q → held_by (option_map seen v) ≡ Some (reference_of q)
 whole_seen None q is = absurd cc
 whole_seen (Some m) q is = ap (option_map reference_of) is
+
+-- what is held as it is seen, whole
+seen_held_whole : (o : Option MediaRef) (s : Reference) → option_map reference_of o ≡ Some s → (q : MediaRef) × ((o ≡ Some q) × (reference_of q ≡ s))
+seen_held_whole None s e = absurd cc
+seen_held_whole (Some q) s e = (q, (refl, same_Some (reference_of q) s e))
+
+pub seen_whole : (v : Option WholeMedium) (s : Reference) → held_by (option_map seen v) ≡ Some s → (q : MediaRef) × ((whole_held v ≡ Some q) × (reference_of q ≡ s))
+seen_whole None s e = absurd cc
+seen_whole (Some m) s e = seen_held_whole m.held s e
 
 seen_held_at : (vs : List (Option WholeMedium)) (i : ℕ) (q : MediaRef) → whole_held (medium_at vs i) ≡ Some q → held_by (medium_at (seen_in vs) i) ≡ Some (reference_of q)
 seen_held_at vs i q is = ap held_by (seen_at vs i) ∙ whole_seen (medium_at vs i) q is

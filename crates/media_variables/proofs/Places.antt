@@ -2,9 +2,9 @@
 use Rattle.std.proofs.Common.{ℕ, zero, suc, ◌≡◌, ◌<◌, ◌≤◌, List, [], ◌∷◌, ◌++◌, length, map, get_or, Option, Some, None, refl, ap, sym, ◌∙◌, arith}
 use Rattle.std.proofs.lemmas.Option.{slice_get_read, slice_get_past}
 use Rattle.std.specs.Prelude.{slice_get, slice_set, option_map, option_and_then}
-use Rattle.media_variables.specs.Variables.{Medium, medium_at, variables_of, with_medium, detached, lendable_in, lendable_at}
+use Rattle.media_variables.specs.Variables.{Medium, changed_at, without, medium_at, variables_of, with_medium, detached, lendable_in, lendable_at}
 use Rattle.media_variables.specs.Held.{WholeMedium, seen, seen_in, without_reference, lendable_of_variable}
-use Rattle.media_variables.specs.Given.{changed_at, given_to, without}
+use Rattle.media_variables.specs.Given.{given_to}
 
 pub medium_read : {X : Type 0} (vs : List (Option X)) (j : ℕ) (v : Option X) → j < length vs → v ≡ get_or vs j v → medium_at vs j ≡ v
 medium_read {X} vs j v lt is = ap (option_and_then (λ (w : Option X). w)) (slice_get_read vs (length vs) j v refl lt is)
@@ -21,6 +21,16 @@ set_changed {X} f (w ∷ vs) (suc j) v h = ap (λ (l : List (Option X)). w ∷ l
 pub changed_there : {X : Type 0} (f : X → X) (vs : List (Option X)) (j : ℕ) (v new : Option X) → j < length vs → v ≡ get_or vs j v → new ≡ option_map f v → slice_set vs j new ≡ changed_at f j vs
 changed_there f vs j v new lt is made =
     ap (slice_set vs j) made ∙ set_changed f vs j v (slice_get_read vs (length vs) j v refl lt is)
+
+set_same : {X : Type 0} (vs : List (Option X)) (j : ℕ) (v : Option X) → slice_get vs j ≡ Some v → slice_set vs j v ≡ vs
+set_same [] j v h = refl
+set_same {X} (w ∷ vs) zero v h = let same : w ≡ v = cc in ap (λ (x : Option X). x ∷ vs) (sym same)
+set_same {X} (w ∷ vs) (suc j) v h = ap (λ (l : List (Option X)). w ∷ l) (set_same vs j v h)
+
+-- the variable that was read is put back
+pub set_back : {X : Type 0} (vs : List (Option X)) (j : ℕ) (v new : Option X) → j < length vs → v ≡ get_or vs j v → new ≡ v → slice_set vs j new ≡ vs
+set_back vs j v new lt is same =
+    ap (slice_set vs j) same ∙ set_same vs j v (slice_get_read vs (length vs) j v refl lt is)
 
 pub changed_past : {X : Type 0} (f : X → X) (vs : List (Option X)) (j : ℕ) → length vs ≤ j → changed_at f j vs ≡ vs
 changed_past f [] j beyond = refl

@@ -2,6 +2,7 @@
 use Rattle.std.specs.Prelude.{ℕ, ◌≡◌, ◌≢◌, ◌<◌, ◌≤◌, true, List, [], ◌∷◌, ◌++◌, ◌⊎◌, length, map, slice_get, slice_set, Option, Some, None, IfSome, option_map, option_and_then}
 use Rattle.wc_base.specs.declared.who.By.{By}
 use Rattle.wc_base.specs.declared.who.Who.{Who}
+use Rattle.codec_model.specs.Held.{in_order}
 use Rattle.codec_model.specs.declared.entry.Pair.{Pair}
 use Rattle.codec_model.specs.declared.entry.HeldMedium.{HeldMedium}
 use Rattle.codec_model.specs.declared.entry.MediaShape.TheVariants as media_shape
@@ -14,14 +15,14 @@ use Rattle.wc_video.specs.Frames.{Frame}
 use Rattle.wc_pool.specs.declared.entry.PoolEntry.{PoolEntry}
 use Rattle.wc_pool.specs.declared.entry.PoolOp.TheVariants as op
 use Rattle.wc_pool.specs.declared.reference.MediaRef.{MediaRef}
-use Rattle.wc_pool.specs.Bag.{resource_of, references_made, is_held, is_legal_next, is_legal_pool}
+use Rattle.wc_pool.specs.Bag.{resource_of, references_made, is_held, is_legal_from, is_legal_pool}
 use Rattle.wc_pool.specs.Pools.{KeepsAll}
 use Rattle.script_types.specs.declared.steps.MediaStep.{MediaStep}
 use Rattle.media_variables.specs.declared.medium.Kind.{Kind}
 use Rattle.media_variables.specs.declared.medium.Kind.TheVariants as kind
 use Rattle.media_variables.specs.declared.lending.MediumFound.{MediumFound}
 use Rattle.media_variables.specs.declared.lending.MediumFound.TheVariants as found
-use Rattle.media_variables.specs.Variables.{Reference, Shape, SoundOf, PictureOf, ChunkOf, Medium, Media, Came, Brought, Lendable, next_numbers, lendable_in, handed_of, medium_at, variables_of, media_came, entries_of, is_last_of}
+use Rattle.media_variables.specs.Variables.{Reference, Shape, SoundOf, PictureOf, ChunkOf, BufferOf, Medium, Media, Came, Received, Brought, Lendable, next_numbers, lendable_in, handed_of, medium_at, variables_of, media_came, entries_of, is_last_of}
 
 -- without the key and the token of a pool
 abbrev pub reference_of : MediaRef → Reference
@@ -36,6 +37,7 @@ abbrev pub whole_of : Kind → WholeMedium
 whole_of (kind.Audio s) = record { shape = SoundOf s.shape; held = s.held }
 whole_of (kind.Frame f) = record { shape = PictureOf f.shape; held = f.held }
 whole_of (kind.Chunk c) = record { shape = ChunkOf c; held = None }
+whole_of (kind.Buffer held) = record { shape = BufferOf; held = held }
 
 -- as steps see it
 abbrev pub seen : WholeMedium → Medium
@@ -86,6 +88,15 @@ pub record AreHeld (pool : List PoolEntry) (callers : List (List (Option Medium)
   pub apart : (k j l i : ℕ) (r s : Reference) → reference_at callers k j ≡ Some r → reference_at callers l i ≡ Some s →
       r.number ≡ s.number → (k ≡ l) × (j ≡ i)
 
+-- no variable holds a reference of this number
+pub record IsFree (callers : List (List (Option Medium))) (number : ℕ) : Type 0 where
+  pub none : (k j : ℕ) (r : Reference) → reference_at callers k j ≡ Some r → r.number ≡ number → ⊥
+
+-- what a step receives holds no reference, or one that is live and that no variable holds
+abbrev pub MayReceive : List PoolEntry → List (List (Option Medium)) → Option Received → Type 0
+MayReceive pool callers o =
+    IfSome o (λ p. IfSome p.medium.held (λ r. IsLiveIn pool r × IsFree callers r.number))
+
 -- ---- references that codecs hold
 
 abbrev pub pair_of : MediaRef → Pair
@@ -96,6 +107,10 @@ pub record AreApart (pool : List PoolEntry) (callers : List (List (Option Medium
   pub lives : (i : ℕ) (p : Pair) → slice_get ps i ≡ Some p → resource_of p.reference pool ≡ Some p.resource
   pub once : (i j : ℕ) (p q : Pair) → slice_get ps i ≡ Some p → slice_get ps j ≡ Some q → p.reference ≡ q.reference → i ≡ j
   pub elsewhere : (i k j : ℕ) (p : Pair) (r : Reference) → slice_get ps i ≡ Some p → reference_at callers k j ≡ Some r → p.reference ≢ r.number
+
+-- the reference of a medium that is in no variable
+abbrev pub pairs_in : Option WholeMedium → List Pair
+pairs_in m = map pair_of (in_order (whole_held m))
 
 -- the ends of these references by one cause, in order, behind a pool's history
 abbrev pub ends_behind : By → List PoolEntry → List Pair → List PoolEntry
@@ -142,14 +157,14 @@ pub record IsLent (cause : By) (pool new : List PoolEntry) (medium : Option Lend
 -- whatever a step on media comes to, the references that variables hold stay live and apart
 abbrev pub StayHeld : Type 0
 StayHeld = (pool : List PoolEntry) (who : Who) (callers : List (List (Option Medium))) (b : Brought) (x : MediaStep) (y : Came) →
-    is_legal_pool pool ≡ true → who.caller < length callers → AreHeld pool callers → media_came (next_numbers pool) who b x (variables_of who.caller callers) ≡ Some y →
+    is_legal_pool pool ≡ true → who.caller < length callers → AreHeld pool callers → MayReceive pool callers b.received → media_came (next_numbers pool) who b x (variables_of who.caller callers) ≡ Some y →
     AreHeld (pool ++ entries_of pool who y.does) (slice_set callers who.caller y.variables)
 
--- and what it does to the pool is legal there
+-- and what it does to the pool is legal there, one after another
 abbrev pub DoLegally : Type 0
-DoLegally = (pool : List PoolEntry) (who : Who) (callers : List (List (Option Medium))) (b : Brought) (x : MediaStep) (y : Came) (e : PoolEntry) →
-    is_legal_pool pool ≡ true → AreHeld pool callers → media_came (next_numbers pool) who b x (variables_of who.caller callers) ≡ Some y →
-    entries_of pool who y.does ≡ e ∷ [] → is_legal_next pool e ≡ true
+DoLegally = (pool : List PoolEntry) (who : Who) (callers : List (List (Option Medium))) (b : Brought) (x : MediaStep) (y : Came) →
+    is_legal_pool pool ≡ true → who.caller < length callers → AreHeld pool callers → media_came (next_numbers pool) who b x (variables_of who.caller callers) ≡ Some y →
+    is_legal_from pool (entries_of pool who y.does) ≡ true
 
 -- an output has at least the bytes that its shape needs
 abbrev pub IsEnoughUnit : output.Unit → Type 0

@@ -1,6 +1,7 @@
 -- The media that callers' variables hold, and what each step on them comes to (W3C WebCodecs, AudioData and VideoFrame). A
 -- variable whose step was refused is absent, and so is one that is not defined yet (our choice).
-use Rattle.std.specs.Prelude.{ℕ, zero, suc, ◌≡◌, ◌++◌, not, Bool, false, List, [], ◌∷◌, length, take, drop, slice_get, slice_set, map, replicate, Option, Some, None, option_map, option_and_then, unwrap_or, Result, Ok, Err, if◌then◌else◌}
+use Rattle.std.specs.Prelude.{ℕ, zero, suc, ◌≡◌, ◌++◌, ◌==◌, not, Bool, true, false, List, [], ◌∷◌, length, take, drop, slice_get, slice_set, map, filter, replicate, is_some, Option, Some, None, option_map, option_and_then, unwrap_or, Result, Ok, Err, if◌then◌else◌}
+use Rattle.std.specs.List.{list_any}
 use Rattle.std.specs.Option.{option_or}
 use Rattle.wc_base.specs.declared.error.DomError.{DomError}
 use Rattle.wc_base.specs.declared.error.DomError.TheVariants as dom
@@ -23,6 +24,7 @@ use Rattle.wc_pool.specs.declared.entry.PoolOp.{PoolOp}
 use Rattle.wc_pool.specs.declared.entry.PoolOp.TheVariants as op
 use Rattle.wc_pool.specs.declared.reference.MediaRef.{MediaRef}
 use Rattle.wc_pool.specs.Bag.{resources_made, references_made, is_held}
+use Rattle.array_buffers.specs.Transfers.{may_transfer}
 use Rattle.wc_audio.specs.Sound.{Sound, needed, is_invalid}
 use Rattle.wc_audio.specs.Copies.{copied_audio, allocation_size}
 use Rattle.wc_audio.specs.declared.options.CopyOptions.{CopyOptions}
@@ -46,6 +48,12 @@ use Rattle.script_types.specs.declared.options.Options.{Options}
 use Rattle.script_types.specs.declared.options.Options.TheVariants as options
 use Rattle.script_types.specs.declared.steps.SoundInit.{SoundInit}
 use Rattle.script_types.specs.declared.steps.PictureInit.{PictureInit}
+use Rattle.script_types.specs.declared.steps.InitShape.{InitShape}
+use Rattle.script_types.specs.declared.steps.InitShape.TheVariants as init_shape
+use Rattle.script_types.specs.declared.steps.InitData.{InitData}
+use Rattle.script_types.specs.declared.steps.InitData.TheVariants as init_data
+use Rattle.script_types.specs.declared.steps.BufferedInit.{BufferedInit}
+use Rattle.script_types.specs.declared.steps.Variable.{Variable}
 use Rattle.script_types.specs.declared.steps.MediaStep.{MediaStep}
 use Rattle.script_types.specs.declared.steps.MediaStep.TheVariants as media
 use Rattle.report_text.specs.declared.result.StepResult.{StepResult}
@@ -59,13 +67,15 @@ pub record Reference : Type 0 where
   pub number : ℕ
   pub bytes : List ℕ
 
--- the shape of audio data or of a video frame; or a whole chunk, which was taken from an encoder
+-- the shape of audio data or of a video frame; a whole chunk, which was taken from an encoder or whose init names buffers; or a
+-- buffer, which has its bytes alone
 pub data Shape : Type 0 where
   SoundOf : SoundShape → Shape
   PictureOf : PictureShape → Shape
   ChunkOf : Chunk → Shape
+  BufferOf : Shape
 
--- audio data or a video frame, with the reference that it holds; none where it is detached. A chunk holds none
+-- audio data, a video frame or a buffer, with the reference that it holds; none where it is detached. A chunk holds none
 pub record Medium : Type 0 where
   pub shape : Shape
   pub held : Option Reference
@@ -95,6 +105,16 @@ with_medium (suc j) m (v ∷ vs) = v ∷ with_medium j m vs
 abbrev pub detached : Medium → Medium
 detached m = record m { held = None }
 
+-- the variable of the step with this number is changed, if it holds something
+abbrev pub changed_at : {X : Type 0} → (X → X) → ℕ → List (Option X) → List (Option X)
+changed_at f j [] = []
+changed_at f zero (v ∷ vs) = option_map f v ∷ vs
+changed_at f (suc j) (v ∷ vs) = v ∷ changed_at f j vs
+
+-- it is detached
+abbrev pub without : ℕ → List (Option Medium) → List (Option Medium)
+without j vs = changed_at detached j vs
+
 -- ---- what a step comes to
 
 -- the numbers that the resource and the reference have which a step makes: those in the step's own entry
@@ -106,15 +126,15 @@ pub record Numbers : Type 0 where
 abbrev pub next_numbers : List PoolEntry → Numbers
 next_numbers pool = record { resource = resources_made pool; reference = references_made pool }
 
--- Its answer, the caller's variables after it, and what it does to the pool, if it does something. Whether an end was the last of
--- its resource is not the step's to know.
+-- Its answer, the caller's variables after it, and what it does to the pool, in order. Whether an end was the last of its resource
+-- is not the step's to know.
 pub record Came : Type 0 where
   pub answer : StepResult
   pub variables : List (Option Medium)
-  pub does : Option PoolOp
+  pub does : List PoolOp
 
 abbrev pub only_answers : StepResult → List (Option Medium) → Came
-only_answers r vs = record { answer = r; variables = vs; does = None }
+only_answers r vs = record { answer = r; variables = vs; does = [] }
 
 abbrev pub refused : DomError → StepResult
 refused e = result.Local (Some e)
@@ -124,7 +144,7 @@ abbrev pub makes : Numbers → ℕ → Shape → List ℕ → List (Option Mediu
 makes n j shape bytes vs = record {
   answer = result.Local None;
   variables = with_medium j (record { shape = shape; held = Some (record { resource = n.resource; number = n.reference; bytes = bytes }) }) vs;
-  does = Some (op.Make n.resource n.reference);
+  does = op.Make n.resource n.reference ∷ [];
 }
 
 -- without an init, which breaks a rule of WebIDL, or with an invalid one, nothing is made
@@ -146,7 +166,7 @@ clone_held n j shape None vs = only_answers (refused dom.InvalidState) vs
 clone_held n j shape (Some r) vs = record {
   answer = result.Local None;
   variables = with_medium j (record { shape = shape; held = Some (record r { number = n.reference }) }) vs;
-  does = Some (op.Clone r.resource n.reference);
+  does = op.Clone r.resource n.reference ∷ [];
 }
 
 -- the reference is handed on
@@ -160,8 +180,131 @@ close_held of m None vs = only_answers (result.Local None) vs
 close_held of m (Some r) vs = record {
   answer = result.Local None;
   variables = with_medium of (detached m) vs;
-  does = Some (op.End r.resource r.number false);
+  does = op.End r.resource r.number false ∷ [];
 }
+
+-- ---- array buffers
+
+-- the reference of a buffer; none of one that is detached, and of what is no buffer
+abbrev pub buffer_of : Shape → Option Reference → Option Reference
+buffer_of BufferOf held = held
+buffer_of _ held = None
+
+abbrev pub buffer_in : Medium → Option Reference
+buffer_in m = buffer_of m.shape m.held
+
+abbrev pub buffer_at : List (Option Medium) → ℕ → Option Reference
+buffer_at vs j = option_and_then buffer_in (medium_at vs j)
+
+abbrev pub is_open_buffer : List (Option Medium) → ℕ → Bool
+is_open_buffer vs j = is_some (buffer_at vs j)
+
+abbrev pub bytes_held : Option Reference → List ℕ
+bytes_held None = []
+bytes_held (Some r) = r.bytes
+
+-- the bytes of an init; a buffer that is detached has none
+abbrev pub bytes_in : InitData → List (Option Medium) → List ℕ
+bytes_in (init_data.Hex bytes) vs = bytes
+bytes_in (init_data.Buffer v) vs = bytes_held (buffer_at vs v.step)
+
+-- an init that is refused: audio data or a frame of no extent, or of more bytes than there are
+abbrev pub is_invalid_init : InitShape → ℕ → Bool
+is_invalid_init (init_shape.Chunk key timestamp duration) count = false
+is_invalid_init (init_shape.Sound shape) count = is_invalid shape count
+is_invalid_init (init_shape.Picture shape) count = frames.is_invalid shape count
+
+abbrev pub steps_in : List Variable → List ℕ
+steps_in vs = map (λ v. v.step) vs
+
+abbrev pub is_listed : ℕ → List ℕ → Bool
+is_listed j js = list_any (λ i. i == j) js
+
+-- the buffer that is the data, where the init lists it
+abbrev pub listed_source : List ℕ → InitData → Option ℕ
+listed_source js (init_data.Hex bytes) = None
+listed_source js (init_data.Buffer v) = if is_listed v.step js then Some v.step else None
+
+-- the buffer whose reference audio data or a frame takes over
+abbrev pub adopted_of : InitShape → Option ℕ → Option ℕ
+adopted_of (init_shape.Chunk key timestamp duration) source = None
+adopted_of _ source = source
+
+-- the same of an init
+abbrev pub adopted_in : BufferedInit → Option ℕ
+adopted_in i = adopted_of i.shape (listed_source (steps_in i.transfer) i.content)
+
+-- all buffers of a list but this one
+abbrev pub all_but : Option ℕ → List ℕ → List ℕ
+all_but None js = js
+all_but (Some k) js = filter (λ j. not (j == k)) js
+
+-- as many bytes as the shape needs
+abbrev pub cut_to : InitShape → List ℕ → List ℕ
+cut_to (init_shape.Chunk key timestamp duration) bytes = bytes
+cut_to (init_shape.Sound shape) bytes = take (needed shape) bytes
+cut_to (init_shape.Picture shape) bytes = take (picture_size shape) bytes
+
+-- with a new resource, or without one where it is a chunk
+abbrev pub init_makes : Numbers → ℕ → InitShape → List ℕ → List (Option Medium) → Came
+init_makes n j (init_shape.Chunk key timestamp duration) bytes vs = record {
+  answer = result.Local None;
+  variables = with_medium j (record { shape = ChunkOf (record { key = key; timestamp = timestamp; duration = duration; bytes = bytes }); held = None }) vs;
+  does = [];
+}
+init_makes n j (init_shape.Sound shape) bytes vs = makes n j (SoundOf shape) (take (needed shape) bytes) vs
+init_makes n j (init_shape.Picture shape) bytes vs = makes n j (PictureOf shape) (take (picture_size shape) bytes) vs
+
+abbrev pub shape_over : InitShape → Shape
+shape_over (init_shape.Sound shape) = SoundOf shape
+shape_over (init_shape.Picture shape) = PictureOf shape
+shape_over (init_shape.Chunk key timestamp duration) = BufferOf
+
+-- audio data or a frame
+abbrev pub takes_buffers : InitShape → Bool
+takes_buffers (init_shape.Chunk key timestamp duration) = false
+takes_buffers _ = true
+
+-- over the resource of a buffer, which is detached
+abbrev pub adopts : ℕ → InitShape → ℕ → List (Option Medium) → Came
+adopts j shape k vs = record {
+  answer = result.Local None;
+  variables = with_medium j (record { shape = shape_over shape; held = buffer_at vs k }) (without k vs);
+  does = [];
+}
+
+abbrev pub init_made : Numbers → ℕ → BufferedInit → Option ℕ → List (Option Medium) → Came
+init_made n j i None vs = init_makes n j i.shape (bytes_in i.content vs) vs
+init_made n j i (Some k) vs = adopts j i.shape k vs
+
+abbrev pub end_of : Option Reference → List PoolOp
+end_of None = []
+end_of (Some r) = op.End r.resource r.number false ∷ []
+
+-- a buffer that is open is detached
+abbrev pub gone_at : Option Reference → ℕ → List (Option Medium) → List (Option Medium)
+gone_at None j vs = vs
+gone_at (Some r) j vs = without j vs
+
+-- and its reference ends, behind what was done
+abbrev pub lets_go : ℕ → Came → Came
+lets_go j c = record c {
+  variables = gone_at (buffer_at c.variables j) j c.variables;
+  does = c.does ++ end_of (buffer_at c.variables j);
+}
+
+-- one after another
+abbrev pub lets_all : List ℕ → Came → Came
+lets_all [] c = c
+lets_all (j ∷ js) c = lets_all js (lets_go j c)
+
+-- The refusals, in this order: the init is invalid, or the list names a buffer twice or names a detached one. Then the data's
+-- buffer is taken over where it is listed, and all others of the list end, in its order.
+abbrev pub buffered_came : Numbers → ℕ → BufferedInit → List (Option Medium) → Came
+buffered_came n j i vs =
+    if is_invalid_init i.shape (length (bytes_in i.content vs)) then only_answers (refused dom.TypeErr) vs
+    else if may_transfer (is_open_buffer vs) (steps_in i.transfer) then lets_all (all_but (adopted_in i) (steps_in i.transfer)) (init_made n j i (adopted_in i) vs)
+    else only_answers (refused dom.DataClone) vs
 
 -- what is absent makes the step absent
 abbrev pub if_there : Option Medium → List (Option Medium) → (Medium → Came) → Came
@@ -250,13 +393,24 @@ size_of_frame f (options.Frame (Some o)) = size_found (video.allocation_size f (
 size_of_frame f _ = refused dom.TypeErr
 
 abbrev pub copy_medium : Medium → Options → ℕ → StepResult
-copy_medium m o size = elim (m.shape) [ SoundOf shape ↦ copy_sound (sound_of shape m.held) o size | PictureOf shape ↦ copy_frame (frame_of shape m.held) o size | ChunkOf chunk ↦ refused dom.TypeErr ]
+copy_medium m o size = elim (m.shape) [
+  | SoundOf shape ↦ copy_sound (sound_of shape m.held) o size
+  | PictureOf shape ↦ copy_frame (frame_of shape m.held) o size
+  | ChunkOf chunk ↦ refused dom.TypeErr
+  | BufferOf ↦ refused dom.TypeErr
+]
 
+-- a buffer has the size of its bytes, and takes no options
 abbrev pub size_of_medium : Medium → Options → StepResult
-size_of_medium m o = elim (m.shape) [ SoundOf shape ↦ size_of_sound (sound_of shape m.held) o | PictureOf shape ↦ size_of_frame (frame_of shape m.held) o | ChunkOf chunk ↦ refused dom.TypeErr ]
+size_of_medium m o = elim (m.shape) [
+  | SoundOf shape ↦ size_of_sound (sound_of shape m.held) o
+  | PictureOf shape ↦ size_of_frame (frame_of shape m.held) o
+  | ChunkOf chunk ↦ refused dom.TypeErr
+  | BufferOf ↦ result.Size (length (bytes_held m.held))
+]
 
 abbrev pub chunk_in_medium : Medium → Option Chunk
-chunk_in_medium m = elim (m.shape) [ SoundOf shape ↦ None | PictureOf shape ↦ None | ChunkOf chunk ↦ Some chunk ]
+chunk_in_medium m = elim (m.shape) [ SoundOf shape ↦ None | PictureOf shape ↦ None | ChunkOf chunk ↦ Some chunk | BufferOf ↦ None ]
 
 -- the chunk of a variable: the one that its step makes or takes from a chunk file, or the one that was taken from an encoder
 abbrev pub chunk_of_variable : Option Chunk → List (Option Medium) → ℕ → Option Chunk
@@ -274,10 +428,17 @@ pub record Taken : Type 0 where
   pub unit : output.Unit
   pub answer : StepResult
 
--- what a step is given from elsewhere: the chunk that it copies, if that was made or is of a chunk file, and the output that it takes
+-- what was received from a port: the medium, and the step that posted it
+pub record Received : Type 0 where
+  pub poster : Who
+  pub medium : Medium
+
+-- what a step is given from elsewhere: the chunk that it copies, if that was made or is of a chunk file, the output that it takes, and
+-- what it receives from a port
 pub record Brought : Type 0 where
   pub chunk : Option Chunk
   pub taken : Option Taken
+  pub received : Option Received
 
 -- the variable holds the chunk itself
 abbrev pub chunk_medium : Chunk → Medium
@@ -287,12 +448,46 @@ chunk_medium chunk = record { shape = ChunkOf chunk; held = None }
 abbrev pub unit_came : Numbers → ℕ → StepResult → output.Unit → List (Option Medium) → Came
 unit_came n j answer (unit.Sound s) vs = record (makes n j (SoundOf s.shape) s.bytes vs) { answer = answer }
 unit_came n j answer (unit.Image p) vs = record (makes n j (PictureOf p.shape) p.bytes vs) { answer = answer }
-unit_came n j answer (unit.Coded chunk config) vs = record { answer = answer; variables = with_medium j (chunk_medium chunk) vs; does = None }
+unit_came n j answer (unit.Coded chunk config) vs = record { answer = answer; variables = with_medium j (chunk_medium chunk) vs; does = [] }
 
 -- where no output is taken, the step is none on media
 abbrev pub taken_came : Numbers → ℕ → Option Taken → List (Option Medium) → Option Came
 taken_came n j None vs = None
 taken_came n j (Some t) vs = Some (unit_came n j t.answer t.unit vs)
+
+-- ---- ports
+
+-- the medium goes into a port, and the variable is detached
+abbrev pub post_held : ℕ → Option Reference → List (Option Medium) → Came
+post_held of None vs = only_answers (refused dom.DataClone) vs
+post_held of (Some r) vs = only_answers (result.Local None) (without of vs)
+
+-- what a step posts, if it posts something
+abbrev pub if_held : Medium → Option Reference → Option Medium
+if_held m None = None
+if_held m (Some r) = Some m
+
+abbrev pub posted_from : List (Option Medium) → ℕ → Option Medium
+posted_from vs of = option_and_then (λ m. if_held m m.held) (medium_at vs of)
+
+abbrev pub posted_by : MediaStep → List (Option Medium) → Option Medium
+posted_by (media.Post to content) vs = posted_from vs content.step
+posted_by _ vs = None
+
+-- what a post of a variable comes to
+abbrev pub post_came : ℕ → List (Option Medium) → Came
+post_came of vs = if_there (medium_at vs of) vs (λ m. post_held of m.held vs)
+
+-- a step that uses a port
+abbrev pub uses_port : MediaStep → Bool
+uses_port (media.Post to content) = true
+uses_port (media.Receive from bind kind) = true
+uses_port _ = false
+
+-- the variable holds what was received, or is absent
+abbrev pub received_came : ℕ → Option Received → List (Option Medium) → Came
+received_came j None vs = only_answers result.Nothing vs
+received_came j (Some p) vs = only_answers (result.From p.poster) (with_medium j p.medium vs)
 
 -- ---- what an encode is given
 
@@ -306,18 +501,24 @@ lendable_in m = elim (m.shape) [
   | SoundOf shape ↦ Some (record { shape = media_shape.Sound shape; held = m.held })
   | PictureOf shape ↦ Some (record { shape = media_shape.Image shape; held = m.held })
   | ChunkOf chunk ↦ None
+  | BufferOf ↦ None
 ]
 
 -- the audio data or frame of the variable that the step with this number defines; none where it is absent
 abbrev pub lendable_at : List (Option Medium) → ℕ → Option Lendable
 lendable_at vs j = option_and_then lendable_in (medium_at vs j)
 
+-- the bytes that the shape needs: a resource that was a buffer's may have more
+abbrev pub content_in : MediaShape → List ℕ → List ℕ
+content_in (media_shape.Sound shape) bytes = take (needed shape) bytes
+content_in (media_shape.Image shape) bytes = take (picture_size shape) bytes
+
 -- What an encode hands to its codec: nothing of a medium that is detached; else, where the codec accepts it, its shape and bytes,
 -- with one reference more to its resource, of this number.
 abbrev pub handed_by : ℕ → Bool → MediaShape → Option Reference → Handed
 handed_by number accepts shape None = handed.Gone
 handed_by number accepts shape (Some r) =
-    if accepts then handed.Cloned (record { shape = shape; bytes = r.bytes; pair = record { resource = r.resource; reference = number } })
+    if accepts then handed.Cloned (record { shape = shape; bytes = content_in shape r.bytes; pair = record { resource = r.resource; reference = number } })
     else handed.Kept
 
 abbrev pub handed_of : ℕ → Bool → Lendable → Handed
@@ -335,6 +536,8 @@ chunk_in _ = None
 abbrev pub media_came : Numbers → Who → Brought → MediaStep → List (Option Medium) → Option Came
 media_came n who b (media.Audio bind init) vs = Some (audio_came n who.step init vs)
 media_came n who b (media.Frame bind init) vs = Some (frame_came n who.step init vs)
+media_came n who b (media.Buffer bind content) vs = Some (makes n who.step BufferOf content vs)
+media_came n who b (media.Buffered bind init) vs = Some (buffered_came n who.step init vs)
 media_came n who b (media.Encode on content) vs = None
 media_came n who b (media.Take on bind kind) vs = taken_came n who.step b.taken vs
 media_came n who b (media.Clone of bind) vs = Some (if_there (medium_at vs of.step) vs (λ m. clone_held n who.step m.shape m.held vs))
@@ -342,6 +545,8 @@ media_came n who b (media.Transfer of bind) vs = Some (if_there (medium_at vs of
 media_came n who b (media.CloseData of) vs = Some (if_there (medium_at vs of.step) vs (λ m. close_held of.step m m.held vs))
 media_came n who b (media.Copy of o size) vs = Some (copy_came b.chunk of.step o size vs)
 media_came n who b (media.Size of o) vs = Some (if_there (medium_at vs of.step) vs (λ m. only_answers (size_of_medium m o) vs))
+media_came n who b (media.Post to content) vs = Some (post_came content.step vs)
+media_came n who b (media.Receive from bind kind) vs = Some (received_came who.step b.received vs)
 
 -- ---- the entry behind a pool's history
 
@@ -365,10 +570,13 @@ flag_behind cause pool (op.End r f any) = is_last_of cause r f pool
 abbrev pub entry_of : Who → Bool → PoolOp → PoolEntry
 entry_of who last o = record { by = by.Caller who; op = with_last last o }
 
--- the entry behind a pool's history of what a step does, if it does something
-abbrev pub entries_of : List PoolEntry → Who → Option PoolOp → List PoolEntry
-entries_of pool who None = []
-entries_of pool who (Some o) = entry_of who (flag_behind (by.Caller who) pool o) o ∷ []
+-- the entries behind a pool's history of what a step does
+abbrev pub entry_behind : List PoolEntry → Who → PoolOp → PoolEntry
+entry_behind pool who o = entry_of who (flag_behind (by.Caller who) pool o) o
+
+abbrev pub entries_of : List PoolEntry → Who → List PoolOp → List PoolEntry
+entries_of pool who [] = []
+entries_of pool who (o ∷ os) = entry_behind pool who o ∷ entries_of (pool ++ entry_behind pool who o ∷ []) who os
 
 -- all callers' variables and the pool's history after a step of a caller
 abbrev pub after_came : Who → Came → Media → Media

@@ -1,14 +1,20 @@
 // The variables of one caller, over any pool.
-ghost use Rattle.std.specs.Prelude.{◌≡◌, [], None, Some, IfOk, OnErr, option_and_then};
+ghost use Rattle.std.specs.Prelude.{◌≡◌, ◌<◌, [], None, Some, false, IfOk, OnErr, OnOk};
+ghost use Rattle.std.specs.Prelude.{length, option_and_then};
 ghost use Rattle.media_variables.specs.declared.lending.MediumFound.TheVariants as found;
 ghost use Rattle.media_variables.specs.Variables.{Brought, Numbers, media_came, unit_came};
 ghost use Rattle.media_variables.specs.Variables.{chunk_in_medium, lendable_at, medium_at};
 ghost use Rattle.media_variables.specs.Held.{AreOf, IsEnoughUnit, StayOf, medium_found, seen_in};
-ghost use Rattle.media_variables.specs.Given.{Acts, Lends};
+ghost use Rattle.media_variables.specs.Given.{Acts, DoesAll, Lends, MayMakeAndEnd};
+ghost use Rattle.media_variables.specs.Given.{transferred_at};
+ghost use Rattle.media_variables.specs.Held.{without_reference};
+ghost use Rattle.media_variables.specs.Variables.{changed_at, uses_port, with_medium};
+ghost use Rattle.report_text.specs.declared.result.StepResult.TheVariants as step_result;
 
 use crate::lending::{MediumFound, lend_at};
 use crate::medium::Medium;
-use crate::steps::{chunk_at, find_medium, media_step, take_step};
+use crate::steps::{chunk_at, find_medium, media_step, take_step, transfer_at};
+use crate::variables::{make_room, put};
 use codec_definitions::Unit;
 use codec_model::HeldMedium;
 use report_text::StepResult;
@@ -46,8 +52,8 @@ impl Variables {
         }
     }
 
-    /// A step on media of the caller, and its answer. A step that encodes or takes is the codec's: it has no
-    /// answer here, and changes nothing. `chunk` is the one that the step copies, if it copies one that was
+    /// A step on media of the caller that uses no port, and its answer. A step that encodes or takes is the
+    /// codec's: it has no answer here, and changes nothing. `chunk` is the one that the step copies, if it copies one that was
     /// made or is of a chunk file. After a want of memory all is as it was, but for what the pool does not
     /// keep of a reference that is cloned.
     pub fn step<P: RefPool>(
@@ -58,11 +64,13 @@ impl Variables {
         chunk: &Option<Chunk>,
         step: &MediaStep,
     ) -> Result<Option<StepResult>, NoMemory>
-        requires { AreOf (P.is_of pool.old) self.old }
-        ensures acts { let adds = P.adds pool.old pool.new in let same = pool.new ≡ pool.old in
-            let b : Brought = record { chunk = chunk.now; taken = None } in
+        requires held { AreOf (P.is_of pool.old) self.old }
+        requires apart { MayMakeAndEnd P.adds P.is_of pool.old (seen_in self.old) }
+        requires ports { uses_port step.now ≡ false }
+        ensures acts { let did = DoesAll P.adds who pool.old pool.new in
+            let b : Brought = record { chunk = chunk.now; taken = None; received = None } in
             let came = λ (n : Numbers). media_came n who b step.now (seen_in self.old) in
-            IfOk result (Acts adds same who came (seen_in self.old) (seen_in self.new)) }
+            IfOk result (Acts did came (seen_in self.old) (seen_in self.new)) }
         ensures of { StayOf (P.is_of pool.old) (P.is_of pool.new) self.old self.new }
         ensures err { OnErr result (P.stays pool.old pool.new) }
         ensures same { OnErr result (seen_in self.new ≡ seen_in self.old) }
@@ -82,15 +90,53 @@ impl Variables {
     ) -> Result<StepResult, NoMemory>
         requires held { AreOf (P.is_of pool.old) self.old }
         requires enough { IsEnoughUnit unit }
-        ensures acts { let adds = P.adds pool.old pool.new in let same = pool.new ≡ pool.old in
+        ensures acts { let did = DoesAll P.adds who pool.old pool.new in
             let vs = seen_in self.old in
             let came = λ (n : Numbers). Some (unit_came n who.step answer unit vs) in
-            IfOk result (λ r. Acts adds same who came vs (seen_in self.new) (Some r)) }
+            IfOk result (λ r. Acts did came vs (seen_in self.new) (Some r)) }
         ensures of { AreOf (P.is_of pool.new) self.new }
         ensures err { OnErr result (P.stays pool.old pool.new) }
         ensures same { OnErr result (seen_in self.new ≡ seen_in self.old) }
     {
         take_step(pool, who, unit, answer, &mut self.media)
+    }
+
+    /// The medium of a variable, for a port, and the answer of the step that posts it; the variable is detached. It takes no
+    /// memory, and makes no entry.
+    pub fn post(&mut self, variable: u32) -> (StepResult, Option<Medium>)
+        ensures answer { result.0 ≡ (transferred_at (medium_at self.old variable)).answer }
+        ensures medium { result.1 ≡ (transferred_at (medium_at self.old variable)).medium }
+        ensures detached { self.new ≡ changed_at without_reference variable self.old }
+    {
+        let given = transfer_at(&mut self.media, variable);
+        (given.answer, given.medium)
+    }
+
+    /// A medium that was posted from a variable goes back into it. It takes no memory.
+    pub fn put_back(&mut self, variable: u32, medium: Medium)
+        requires { variable < length self.old }
+        ensures { self.new ≡ with_medium variable medium self.old }
+    {
+        put(&mut self.media, variable, medium);
+    }
+
+    /// Room for the variable of a step, before something is received that is to go into it. All is as it was.
+    pub fn make_room(&mut self, variable: u32) -> Result<(), NoMemory>
+        ensures { self.new ≡ self.old }
+    {
+        make_room(&mut self.media, variable)
+    }
+
+    /// The variable of a step holds a medium that was posted by this step. After a want of memory all is as it was, and the
+    /// medium is gone.
+    pub fn receive(&mut self, who: Who, poster: Who, medium: Medium) -> Result<StepResult, NoMemory>
+        ensures ok { IfOk result (λ r. r ≡ step_result.From poster) }
+        ensures variables { OnOk result (self.new ≡ with_medium who.step medium self.old) }
+        ensures err { OnErr result (self.new ≡ self.old) }
+    {
+        make_room(&mut self.media, who.step)?;
+        put(&mut self.media, who.step, medium);
+        Ok(StepResult::From { who: poster })
     }
 
     /// The chunk that a variable holds, again; none where it holds none.

@@ -1,11 +1,13 @@
 // The media of all callers.
-ghost use Rattle.std.specs.Prelude.{◌≡◌, ◌<◌, ◌++◌, [], ◌∷◌, true, None, Some, IfOk, OnErr};
-ghost use Rattle.std.specs.Prelude.{map, length, option_and_then, option_map, unwrap_or};
+ghost use Rattle.std.specs.Prelude.{◌≡◌, ◌<◌, ◌++◌, [], ◌∷◌, false, true, None, Some, IfOk, OnErr};
+ghost use Rattle.std.specs.Prelude.{map, length, option_and_then, option_map, slice_set, unwrap_or};
 ghost use Rattle.codec_model.specs.Held.{in_order};
 ghost use Rattle.wc_pool.specs.Bag.{held_in, is_legal_pool};
 ghost use Rattle.media_variables.specs.declared.lending.MediumFound.TheVariants as found;
 ghost use Rattle.media_variables.specs.Variables.{Brought, CameTo, IsCome, Taken, next_numbers};
-ghost use Rattle.media_variables.specs.Variables.{taken_came, variables_of};
+ghost use Rattle.media_variables.specs.Variables.{taken_came, uses_port, variables_of};
+ghost use Rattle.media_variables.specs.Variables.{Received, post_came, posted_from, received_came};
+ghost use Rattle.media_variables.specs.Held.{pairs_in, seen};
 ghost use Rattle.media_variables.specs.Variables.{chunk_in_medium, medium_at, lendable_at};
 ghost use Rattle.media_variables.specs.Held.{AreHeld, AreApart, IsEnoughUnit, IsLent};
 ghost use Rattle.media_variables.specs.Held.{ends_behind, media_of, medium_found, pair_of, seen_in};
@@ -13,6 +15,7 @@ ghost use Rattle.media_variables.specs.Held.{ends_behind, media_of, medium_found
 use crate::caller::Variables;
 use crate::ending::{end_each, end_if};
 use crate::lending::MediumFound;
+use crate::medium::Medium;
 use codec_definitions::Unit;
 use codec_model::HeldMedium;
 use report_text::StepResult;
@@ -56,7 +59,7 @@ impl CallerMedia {
         })
     }
 
-    /// A step on media of a caller, and its answer. A step that encodes or takes is the codec's: it has
+    /// A step on media of a caller that uses no port, and its answer. A step that encodes or takes is the codec's: it has
     /// no answer here, and changes nothing. `chunk` is the one that the step copies, if it copies one that
     /// was made or is of a chunk file.
     pub fn step(
@@ -66,8 +69,9 @@ impl CallerMedia {
         chunk: Option<Chunk>,
         step: &MediaStep,
     ) -> Result<Option<StepResult>, NoMemory>
-        requires { who.caller < length self.old.variables }
-        ensures came { let b : Brought = record { chunk = chunk; taken = None } in
+        requires there { who.caller < length self.old.variables }
+        requires ports { uses_port step.now ≡ false }
+        ensures came { let b : Brought = record { chunk = chunk; taken = None; received = None } in
             IfOk result (CameTo self.old self.new who b step.now) }
         ensures err { OnErr result (self.new ≡ self.old) }
     {
@@ -88,6 +92,32 @@ impl CallerMedia {
         ensures err { OnErr result (self.new ≡ self.old) }
     {
         caller_take(&mut self.pool, &mut self.callers, who, unit, answer)
+    }
+
+    /// The medium of a variable of a caller, for a port, and the answer of the step that posts it. No variable holds its
+    /// reference then. It takes no memory.
+    pub fn post(&mut self, who: Who, variable: u32) -> (StepResult, Option<Medium>)
+        requires { who.caller < length self.old.variables }
+        ensures came { let came = post_came variable (variables_of who.caller self.old.variables) in
+            IsCome self.old self.new who (Some came) (Some result.0) }
+        ensures posted { let vs = variables_of who.caller self.old.variables in
+            option_map seen result.1 ≡ posted_from vs variable }
+        ensures apart { AreApart self.new.pool self.new.variables (pairs_in result.1) }
+    {
+        caller_post(&mut self.callers, who, variable)
+    }
+
+    /// A step of a caller that receives a medium which was posted by this step, and its answer. After a want of memory all is
+    /// as it was, and the medium is gone.
+    pub fn receive(&mut self, who: Who, poster: Who, medium: Medium) -> Result<StepResult, NoMemory>
+        requires there { who.caller < length self.old.variables }
+        requires apart { AreApart self.old.pool self.old.variables (pairs_in (Some medium)) }
+        ensures came { let p : Received = record { poster = poster; medium = seen medium } in
+            let came = received_came who.step (Some p) (variables_of who.caller self.old.variables) in
+            IfOk result (λ r. IsCome self.old self.new who (Some came) (Some r)) }
+        ensures err { OnErr result (self.new ≡ self.old) }
+    {
+        caller_receive(&mut self.callers, who, poster, medium)
     }
 
     /// The chunk that a variable of a caller holds, again; none where it holds none.
@@ -195,7 +225,8 @@ fn caller_step(
 ) -> Result<Option<StepResult>, NoMemory>
     requires there { who.caller < length callers.old.items }
     requires held { AreHeld pool.old (map seen_in callers.old.items) }
-    ensures came { let b : Brought = record { chunk = chunk.now; taken = None } in
+    requires ports { uses_port step.now ≡ false }
+    ensures came { let b : Brought = record { chunk = chunk.now; taken = None; received = None } in
         let old = media_of callers.old.items pool.old in
         IfOk result (CameTo old (media_of callers.new.items pool.new) who b step.now) }
     ensures pool { OnErr result (pool.new ≡ pool.old) }
@@ -207,6 +238,48 @@ fn caller_step(
     let _legal = pool.entries().len();
     match callers.get_mut(who.caller as usize) {
         Some(variables) => variables.step(alloc, pool, who, chunk, step),
+        None => unreachable!(),
+    }
+}
+
+/// A post of a caller, on the variables of all.
+fn caller_post(
+    callers: &mut Vec<Variables>,
+    who: Who,
+    variable: u32,
+) -> (StepResult, Option<Medium>)
+    requires { who.caller < length callers.old.items }
+    ensures came { let vs = variables_of who.caller (map seen_in callers.old.items) in
+        let came = post_came variable vs in
+        (result.0 ≡ came.answer) × (map seen_in callers.new.items
+        ≡ slice_set (map seen_in callers.old.items) who.caller came.variables) }
+    ensures posted { let vs = variables_of who.caller (map seen_in callers.old.items) in
+        option_map seen result.1 ≡ posted_from vs variable }
+{
+    match callers.get_mut(who.caller as usize) {
+        Some(variables) => variables.post(variable),
+        None => unreachable!(),
+    }
+}
+
+/// A step of a caller that receives a medium, on the variables of all.
+fn caller_receive(
+    callers: &mut Vec<Variables>,
+    who: Who,
+    poster: Who,
+    medium: Medium,
+) -> Result<StepResult, NoMemory>
+    requires { who.caller < length callers.old.items }
+    ensures came { let p : Received = record { poster = poster; medium = seen medium } in
+        let vs = variables_of who.caller (map seen_in callers.old.items) in
+        let came = received_came who.step (Some p) vs in
+        IfOk result (λ r. (r ≡ came.answer) × (map seen_in callers.new.items
+        ≡ slice_set (map seen_in callers.old.items) who.caller came.variables)) }
+    ensures err { OnErr result
+        (map seen_in callers.new.items ≡ map seen_in callers.old.items) }
+{
+    match callers.get_mut(who.caller as usize) {
+        Some(variables) => variables.receive(who, poster, medium),
         None => unreachable!(),
     }
 }

@@ -224,7 +224,7 @@ pub(crate) fn copy_medium(
     match medium.kind() {
         Kind::Audio(audio) => copy_audio(alloc, audio, options, size),
         Kind::Frame(frame) => copy_frame(alloc, frame, options, size),
-        Kind::Chunk(_) => Ok(refused(DomError::TypeErr)),
+        Kind::Chunk(_) | Kind::Buffer(_) => Ok(refused(DomError::TypeErr)),
     }
 }
 
@@ -240,5 +240,8 @@ pub(crate) fn size_of_medium(
         Kind::Audio(audio) => Ok(size_of_audio(audio, options)),
         Kind::Frame(frame) => size_of_frame(alloc, frame, options),
         Kind::Chunk(_) => Ok(refused(DomError::TypeErr)),
+        Kind::Buffer(buffer) => Ok(StepResult::Size {
+            size: buffer.bytes().len() as u64,
+        }),
     }
 }

@@ -1,8 +1,10 @@
 // What a medium hands to a codec: its shape and bytes, with one reference more to its resource.
-ghost use Rattle.std.specs.Prelude.{◌≡◌, Some, true, is_some, IfOk, IfErr, IfSome, OnErr};
+ghost use Rattle.std.specs.Prelude.{◌≡◌, Some, true, is_some, length, take, IfOk, IfErr, IfSome, OnErr};
+ghost use Rattle.picture_planes.specs.Planes.{picture_size};
 ghost use Rattle.std.specs.Prelude.{option_map};
-ghost use Rattle.wc_audio.specs.Sound.{IsCloneBy, IsCloneFault, IsHeldOf};
+ghost use Rattle.wc_audio.specs.Sound.{IsCloneBy, IsCloneFault, IsHeldOf, needed};
 ghost use Rattle.wc_video.specs.Frames as frames;
+ghost use Rattle.array_buffers.specs.Buffers as buffers;
 ghost use Rattle.wc_pool.specs.Pools.{KeepsAll, cloned_by};
 ghost use Rattle.media_variables.specs.declared.lending.MediumFound.TheVariants as found;
 ghost use Rattle.media_variables.specs.declared.medium.Kind.TheVariants as kind;
@@ -13,6 +15,7 @@ ghost use Rattle.media_variables.specs.Held.{seen, seen_in, whole_held, whole_of
 ghost use Rattle.media_variables.specs.Given.{Lends};
 
 use crate::medium::Medium;
+use array_buffers::ArrayBuffer;
 use bytes::Bytes;
 use codec_model::{HeldMedium, MediaShape, Pair};
 use wc_audio::AudioData;
@@ -50,24 +53,36 @@ pub(crate) fn find_frame(frame: &VideoFrame) -> MediumFound
     }
 }
 
-/// The bytes of open audio data, shared.
+/// The front of these bytes, shared; its bytes are given.
+fn front(bytes: &Bytes, content: &[u8]) -> Result<Bytes, NoMemory>
+    requires { content.now ≡ take (length content.now) bytes.now }
+    ensures { IfOk result (λ b. b ≡ content.now) }
+{
+    let mut shared = bytes.clone()?;
+    shared.truncate(content.len());
+    Ok(shared)
+}
+
+/// The bytes of open audio data that its shape needs, shared.
 fn sound_bytes(audio: &AudioData) -> Result<Bytes, NoMemory>
     requires { is_some audio.now.held ≡ true }
-    ensures { IfOk result (λ b. IfSome audio.now.held (λ r. b ≡ r.bytes)) }
+    ensures { IfOk result (λ b. IfSome audio.now.held
+        (λ r. b ≡ take (needed audio.now.shape) r.bytes)) }
 {
     match audio.reference() {
-        Some(r) => Ok(r.bytes().clone()?),
+        Some(r) => front(r.bytes(), audio.content()),
         None => unreachable!(),
     }
 }
 
-/// The bytes of an open frame, shared.
+/// The bytes of an open frame that its planes need, shared.
 fn frame_bytes(frame: &VideoFrame) -> Result<Bytes, NoMemory>
     requires { is_some frame.now.held ≡ true }
-    ensures { IfOk result (λ b. IfSome frame.now.held (λ r. b ≡ r.bytes)) }
+    ensures { IfOk result (λ b. IfSome frame.now.held
+        (λ r. b ≡ take (picture_size frame.now.shape) r.bytes)) }
 {
     match frame.reference() {
-        Some(r) => Ok(r.bytes().clone()?),
+        Some(r) => front(r.bytes(), frame.content()),
         None => unreachable!(),
     }
 }
@@ -106,6 +121,25 @@ pub(crate) fn another_frame<P: RefPool>(
     ensures kept { KeepsAll (P.is_of pool.old) (P.is_of pool.new) }
 {
     frame.clone_frame(pool, by)
+}
+
+/// Another buffer with one more reference to the same resource; this one is seen as it was.
+pub(crate) fn another_buffer<P: RefPool>(
+    buffer: &mut ArrayBuffer,
+    pool: &mut P,
+    by: By,
+) -> Result<ArrayBuffer, MediaFault>
+    requires { IfSome buffer.old (P.is_of pool.old) }
+    ensures same { seen (whole_of (kind.Buffer buffer.new))
+        ≡ seen (whole_of (kind.Buffer buffer.old)) }
+    ensures still { IfSome buffer.new (P.is_of pool.new) }
+    ensures ok { IfOk result (buffers.IsCloneBy (P.adds pool.old pool.new) by buffer.old) }
+    ensures of { IfOk result (λ b. IfSome b (P.is_of pool.new)) }
+    ensures err { let same = pool.new ≡ pool.old in
+        IfErr result (buffers.IsCloneFault buffer.old same (P.stays pool.old pool.new)) }
+    ensures kept { KeepsAll (P.is_of pool.old) (P.is_of pool.new) }
+{
+    buffer.clone_buffer(pool, by)
 }
 
 /// One more reference to the resource of open audio data.

@@ -1,6 +1,7 @@
 //! The media that callers' variables hold: audio data, video frames and chunks, with the pool of their references.
 #![tactic(auto)]
 
+mod buffered;
 mod caller;
 mod callers;
 mod copies;
@@ -16,3 +17,4 @@ pub use caller::Variables;
 pub use callers::CallerMedia;
 pub use laws::references_stay_held;
 pub use lending::MediumFound;
+pub use medium::Medium;

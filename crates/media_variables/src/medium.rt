@@ -1,6 +1,6 @@
-// A medium that a variable holds: audio data, a video frame or a chunk.
+// A medium that a variable holds: audio data, a video frame, a chunk or an array buffer.
 ghost use Rattle.std.specs.Prelude.{◌≡◌, ◌≤◌, Option, Some, None, IfOk, IfSome, OnErr};
-ghost use Rattle.std.specs.Prelude.{length, option_map};
+ghost use Rattle.std.specs.Prelude.{false, true, length, is_some, option_map};
 ghost use Rattle.wc_base.specs.declared.who.By.TheVariants as by;
 ghost use Rattle.codec_definitions.specs.declared.unit.Unit.TheVariants as unit;
 ghost use Rattle.picture_planes.specs.Planes.{picture_size};
@@ -10,21 +10,27 @@ ghost use Rattle.wc_pool.specs.Pools.{KeepsAll};
 ghost use Rattle.media_variables.specs.declared.medium.Kind.TheVariants as kind;
 ghost use Rattle.media_variables.specs.declared.lending.MediumFound.{MediumFound};
 ghost use Rattle.media_variables.specs.declared.lending.MediumFound.TheVariants as found;
+ghost use Rattle.report_text.specs.declared.result.StepResult.TheVariants as step_result;
+ghost use Rattle.media_variables.specs.Variables.{buffer_in, bytes_held, is_invalid_init};
+ghost use Rattle.media_variables.specs.Variables.{shape_over, takes_buffers};
 ghost use Rattle.media_variables.specs.Variables.{chunk_in_medium, lendable_in};
 ghost use Rattle.media_variables.specs.Held.{medium_found, reference_of, seen, whole_of};
 ghost use Rattle.media_variables.specs.Held.{without_reference, IsEnoughUnit};
 ghost use Rattle.media_variables.specs.Given.{Does, Gives, IsGivenOf, Lends};
-ghost use Rattle.media_variables.specs.Given.{audio_done, frame_done};
+ghost use Rattle.media_variables.specs.Given.{audio_done, frame_done, buffer_done, init_done};
 ghost use Rattle.media_variables.specs.Given.{clone_done, closed_op, taken_done, transferred};
 
 use crate::given::{Given, gives, gives_nothing};
 use crate::lending::{
-    MediumFound, another_audio, another_frame, find_frame, find_sound, lend_frame, lend_sound,
+    MediumFound, another_audio, another_buffer, another_frame, find_frame, find_sound, lend_frame,
+    lend_sound,
 };
+use array_buffers::ArrayBuffer;
+use bytes::Bytes;
 use codec_definitions::Unit;
 use codec_model::HeldMedium;
 use report_text::StepResult;
-use script_types::{PictureInit, SoundInit};
+use script_types::{InitShape, PictureInit, SoundInit};
 use std::alloc::Global;
 use std::marker::Model;
 use wc_audio::AudioData;
@@ -39,11 +45,12 @@ pub(crate) enum Kind {
     Audio(AudioData),
     Frame(VideoFrame),
     Chunk(Chunk),
+    Buffer(ArrayBuffer),
 }
 
 /// A medium. A contract sees its shape, and all of the reference that it holds.
 #[derive(Drop)]
-pub(crate) struct Medium {
+pub struct Medium {
     kind: Kind,
 }
 
@@ -104,6 +111,106 @@ pub(crate) fn make_frame<P: RefPool>(
         })),
         Err(MediaFault::Dom(e)) => Ok(gives_nothing(e)),
         Err(MediaFault::NoMemory) => Err(NoMemory),
+    }
+}
+
+/// A buffer of these bytes.
+pub(crate) fn make_buffer<P: RefPool>(
+    alloc: Global,
+    pool: &mut P,
+    who: Who,
+    content: &[u8],
+) -> Result<Given, NoMemory>
+    ensures ok { let adds = P.adds pool.old pool.new in let same = pool.new ≡ pool.old in
+        IfOk result (Gives adds same who (buffer_done content.now)) }
+    ensures of { IfOk result (IsGivenOf (P.is_of pool.new)) }
+    ensures err { OnErr result (P.stays pool.old pool.new) }
+    ensures kept { KeepsAll (P.is_of pool.old) (P.is_of pool.new) }
+{
+    let buffer = ArrayBuffer::new(alloc, content, pool, By::Caller(who))?;
+    Ok(gives(Medium {
+        kind: Kind::Buffer(buffer),
+    }))
+}
+
+/// Whether an init is refused: audio data or a frame of no extent, or of more bytes than there are.
+pub(crate) fn is_invalid_init(shape: InitShape, bytes: usize) -> bool
+    ensures { result ≡ is_invalid_init shape bytes }
+{
+    match shape {
+        InitShape::Chunk { .. } => false,
+        InitShape::Sound(shape) => !AudioData::is_valid(&shape, bytes),
+        InitShape::Picture(shape) => !VideoFrame::is_valid(&shape, bytes),
+    }
+}
+
+/// Audio data or a frame over a resource that is there already, which has bytes enough.
+pub(crate) fn adopt_medium(shape: InitShape, held: MediaRef) -> Medium
+    requires medium { takes_buffers shape ≡ true }
+    requires valid { is_invalid_init shape (length held.bytes) ≡ false }
+    ensures { result ≡ record { shape = shape_over shape; held = Some held } }
+{
+    match shape {
+        InitShape::Sound(shape) => match AudioData::adopt(shape, held) {
+            Ok(audio) => Medium {
+                kind: Kind::Audio(audio),
+            },
+            Err(_) => unreachable!(),
+        },
+        InitShape::Picture(shape) => match VideoFrame::adopt(shape, held) {
+            Ok(frame) => Medium {
+                kind: Kind::Frame(frame),
+            },
+            Err(_) => unreachable!(),
+        },
+        InitShape::Chunk { .. } => unreachable!(),
+    }
+}
+
+/// What an init makes of these bytes: audio data, a frame, or a chunk with a copy of them.
+pub(crate) fn make_init<P: RefPool>(
+    alloc: Global,
+    pool: &mut P,
+    who: Who,
+    shape: InitShape,
+    content: &[u8],
+) -> Result<Given, NoMemory>
+    requires { is_invalid_init shape (length content.now) ≡ false }
+    ensures ok { let adds = P.adds pool.old pool.new in let same = pool.new ≡ pool.old in
+        IfOk result (Gives adds same who (init_done shape content.now)) }
+    ensures done { IfOk result (λ g. g.answer ≡ step_result.Local None) }
+    ensures of { IfOk result (IsGivenOf (P.is_of pool.new)) }
+    ensures err { OnErr result (P.stays pool.old pool.new) }
+    ensures kept { KeepsAll (P.is_of pool.old) (P.is_of pool.new) }
+{
+    let by = By::Caller(who);
+    match shape {
+        InitShape::Chunk {
+            key,
+            timestamp,
+            duration,
+        } => Ok(gives(Medium {
+            kind: Kind::Chunk(Chunk {
+                key,
+                timestamp,
+                duration,
+                bytes: Bytes::copy_from_slice(alloc, content)?,
+            }),
+        })),
+        InitShape::Sound(shape) => match AudioData::new(alloc, shape, content, pool, by) {
+            Ok(audio) => Ok(gives(Medium {
+                kind: Kind::Audio(audio),
+            })),
+            Err(MediaFault::Dom(_)) => unreachable!(),
+            Err(MediaFault::NoMemory) => Err(NoMemory),
+        },
+        InitShape::Picture(shape) => match VideoFrame::new(alloc, shape, content, pool, by) {
+            Ok(frame) => Ok(gives(Medium {
+                kind: Kind::Frame(frame),
+            })),
+            Err(MediaFault::Dom(_)) => unreachable!(),
+            Err(MediaFault::NoMemory) => Err(NoMemory),
+        },
     }
 }
 
@@ -233,6 +340,31 @@ fn clone_frame<P: RefPool>(
     }
 }
 
+fn clone_buffer<P: RefPool>(
+    buffer: &mut ArrayBuffer,
+    pool: &mut P,
+    who: Who,
+) -> Result<Given, NoMemory>
+    requires { IfSome buffer.old (P.is_of pool.old) }
+    ensures same { seen (whole_of (kind.Buffer buffer.new))
+        ≡ seen (whole_of (kind.Buffer buffer.old)) }
+    ensures still { IfSome buffer.new (P.is_of pool.new) }
+    ensures ok { let adds = P.adds pool.old pool.new in let same = pool.new ≡ pool.old in
+        let medium = seen (whole_of (kind.Buffer buffer.old)) in
+        IfOk result (Gives adds same who (clone_done (Some medium))) }
+    ensures of { IfOk result (IsGivenOf (P.is_of pool.new)) }
+    ensures err { OnErr result (P.stays pool.old pool.new) }
+    ensures kept { KeepsAll (P.is_of pool.old) (P.is_of pool.new) }
+{
+    match another_buffer(buffer, pool, By::Caller(who)) {
+        Ok(clone) => Ok(gives(Medium {
+            kind: Kind::Buffer(clone),
+        })),
+        Err(MediaFault::Dom(e)) => Ok(gives_nothing(e)),
+        Err(MediaFault::NoMemory) => Err(NoMemory),
+    }
+}
+
 fn transfer_audio(audio: &mut AudioData) -> Given
     ensures detached { audio.new ≡ record audio.old { held = None } }
     ensures given { result ≡ transferred (whole_of (kind.Audio audio.old)) audio.old.held }
@@ -252,6 +384,18 @@ fn transfer_frame(frame: &mut VideoFrame) -> Given
     match frame.transfer() {
         Ok(frame) => gives(Medium {
             kind: Kind::Frame(frame),
+        }),
+        Err(e) => gives_nothing(e),
+    }
+}
+
+fn transfer_buffer(buffer: &mut ArrayBuffer) -> Given
+    ensures detached { buffer.new ≡ None }
+    ensures given { result ≡ transferred (whole_of (kind.Buffer buffer.old)) buffer.old }
+{
+    match buffer.transfer() {
+        Ok(buffer) => gives(Medium {
+            kind: Kind::Buffer(buffer),
         }),
         Err(e) => gives_nothing(e),
     }
@@ -277,6 +421,16 @@ fn close_frame<P: RefPool>(frame: &mut VideoFrame, pool: &mut P, who: Who)
     frame.close_frame(pool, By::Caller(who));
 }
 
+fn close_buffer<P: RefPool>(buffer: &mut ArrayBuffer, pool: &mut P, who: Who)
+    requires { IfSome buffer.old (P.is_of pool.old) }
+    ensures detached { buffer.new ≡ None }
+    ensures does { let held = option_map reference_of buffer.old in
+        Does (P.adds pool.old pool.new) (pool.new ≡ pool.old) who (closed_op held) }
+    ensures kept { KeepsButHeld buffer.old (P.is_of pool.old) (P.is_of pool.new) }
+{
+    buffer.close_buffer(pool, By::Caller(who));
+}
+
 impl Medium {
     /// One more reference to the resource that is held; a detached medium is refused.
     #[tactic(auto, using(crate::proofs::Made::not_cloned))]
@@ -298,6 +452,7 @@ impl Medium {
             Kind::Audio(audio) => clone_audio(audio, pool, who),
             Kind::Frame(frame) => clone_frame(frame, pool, who),
             Kind::Chunk(_) => Ok(gives_nothing(DomError::InvalidState)),
+            Kind::Buffer(buffer) => clone_buffer(buffer, pool, who),
         }
     }
 
@@ -310,6 +465,7 @@ impl Medium {
             Kind::Audio(audio) => transfer_audio(audio),
             Kind::Frame(frame) => transfer_frame(frame),
             Kind::Chunk(_) => gives_nothing(DomError::DataClone),
+            Kind::Buffer(buffer) => transfer_buffer(buffer),
         }
     }
 
@@ -325,6 +481,7 @@ impl Medium {
             Kind::Audio(audio) => close_audio(audio, pool, who),
             Kind::Frame(frame) => close_frame(frame, pool, who),
             Kind::Chunk(_) => (),
+            Kind::Buffer(buffer) => close_buffer(buffer, pool, who),
         }
     }
 
@@ -347,7 +504,7 @@ impl Medium {
         match &mut self.kind {
             Kind::Audio(audio) => lend_sound(audio, pool, by),
             Kind::Frame(frame) => lend_frame(frame, pool, by),
-            Kind::Chunk(_) => unreachable!(),
+            Kind::Chunk(_) | Kind::Buffer(_) => unreachable!(),
         }
     }
 
@@ -358,7 +515,7 @@ impl Medium {
         match &self.kind {
             Kind::Audio(audio) => find_sound(audio),
             Kind::Frame(frame) => find_frame(frame),
-            Kind::Chunk(_) => MediumFound::Absent,
+            Kind::Chunk(_) | Kind::Buffer(_) => MediumFound::Absent,
         }
     }
 
@@ -370,6 +527,40 @@ impl Medium {
             Kind::Audio(_) => None,
             Kind::Frame(_) => None,
             Kind::Chunk(chunk) => Some(chunk),
+            Kind::Buffer(_) => None,
+        }
+    }
+
+    /// Whether it is an open buffer.
+    pub(crate) fn is_open_buffer(&self) -> bool
+        ensures { result ≡ is_some (buffer_in (seen self.now)) }
+    {
+        match &self.kind {
+            Kind::Buffer(buffer) => !buffer.is_detached(),
+            Kind::Audio(_) | Kind::Frame(_) | Kind::Chunk(_) => false,
+        }
+    }
+
+    /// The bytes of an open buffer; none of anything else.
+    pub(crate) fn buffer_bytes(&self) -> &[u8]
+        ensures { result.now ≡ bytes_held (buffer_in (seen self.now)) }
+    {
+        match &self.kind {
+            Kind::Buffer(buffer) => buffer.bytes(),
+            Kind::Audio(_) | Kind::Frame(_) | Kind::Chunk(_) => &[],
+        }
+    }
+
+    /// Hands the reference of a buffer out, which is detached; none of anything else.
+    pub(crate) fn detach_buffer(&mut self) -> Option<MediaRef>
+        ensures given { option_map reference_of result ≡ buffer_in (seen self.old) }
+        ensures of { IfSome result (λ r. self.old.held ≡ Some r) }
+        ensures detached { IfSome result (λ r. self.new ≡ without_reference self.old) }
+        ensures same { result ≡ None → self.new ≡ self.old }
+    {
+        match &mut self.kind {
+            Kind::Buffer(buffer) => buffer.detach(),
+            Kind::Audio(_) | Kind::Frame(_) | Kind::Chunk(_) => None,
         }
     }
 

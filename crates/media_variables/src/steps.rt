@@ -1,5 +1,6 @@
 // What the steps of one caller come to.
 ghost use Rattle.std.specs.Prelude.{◌≡◌, Option, None, Some, IfOk, IfSome, OnErr, vec_capacity};
+ghost use Rattle.std.specs.Prelude.{false};
 ghost use Rattle.std.specs.Prelude.{option_map, option_and_then};
 ghost use Rattle.wc_audio.specs.Sound.{KeepsButHeld};
 ghost use Rattle.wc_pool.specs.Pools.{KeepsAll};
@@ -13,9 +14,12 @@ ghost use Rattle.media_variables.specs.Variables.{chunk_of_variable, lendable_at
 ghost use Rattle.media_variables.specs.Held.{AreOf, IsEnoughUnit, StayOf, medium_found};
 ghost use Rattle.media_variables.specs.Held.{reference_of, seen, seen_in, whole_held};
 ghost use Rattle.media_variables.specs.Held.{without_reference};
-ghost use Rattle.media_variables.specs.Given.{Acts, Does, Gives, IsGivenOf, changed_at};
+ghost use Rattle.media_variables.specs.Given.{Acts, Does, DoesAll, Gives, IsGivenOf};
+ghost use Rattle.media_variables.specs.Given.{MayMakeAndEnd};
+ghost use Rattle.media_variables.specs.Variables.{changed_at, uses_port};
 ghost use Rattle.media_variables.specs.Given.{clone_done, closed_answer, closed_op, transferred_at};
 
+use crate::buffered::{buffer_step, buffered_step};
 use crate::copies::{copy_chunk, copy_medium, size_of_medium};
 use crate::given::{Given, absent, done};
 use crate::lending::MediumFound;
@@ -30,7 +34,7 @@ use wc_chunk::Chunk;
 use wc_pool::RefPool;
 
 /// A law: where no call is made, a pool makes no entry.
-fn at_rest<P: RefPool>(pool: &P)
+pub(crate) fn at_rest<P: RefPool>(pool: &P)
     ensures { P.stays pool.now pool.now }
 {}
 
@@ -43,11 +47,11 @@ fn audio_step<P: RefPool>(
     variables: &mut Vec<Option<Medium>>,
 ) -> Result<StepResult, NoMemory>
     requires { AreOf (P.is_of pool.old) variables.old.items }
-    ensures ok { let adds = P.adds pool.old pool.new in let same = pool.new ≡ pool.old in
+    ensures ok { let did = DoesAll P.adds who pool.old pool.new in
         let vs = seen_in variables.old.items in
         let came = λ (n : Numbers). Some (audio_came n who.step init.now vs) in
         let after = seen_in variables.new.items in
-        IfOk result (λ r. Acts adds same who came vs after (Some r)) }
+        IfOk result (λ r. Acts did came vs after (Some r)) }
     ensures of { AreOf (P.is_of pool.new) variables.new.items }
     ensures err { OnErr result (P.stays pool.old pool.new) }
     ensures same { OnErr result (seen_in variables.new.items ≡ seen_in variables.old.items) }
@@ -67,11 +71,11 @@ fn frame_step<P: RefPool>(
     variables: &mut Vec<Option<Medium>>,
 ) -> Result<StepResult, NoMemory>
     requires { AreOf (P.is_of pool.old) variables.old.items }
-    ensures ok { let adds = P.adds pool.old pool.new in let same = pool.new ≡ pool.old in
+    ensures ok { let did = DoesAll P.adds who pool.old pool.new in
         let vs = seen_in variables.old.items in
         let came = λ (n : Numbers). Some (frame_came n who.step init.now vs) in
         let after = seen_in variables.new.items in
-        IfOk result (λ r. Acts adds same who came vs after (Some r)) }
+        IfOk result (λ r. Acts did came vs after (Some r)) }
     ensures of { AreOf (P.is_of pool.new) variables.new.items }
     ensures err { OnErr result (P.stays pool.old pool.new) }
     ensures same { OnErr result (seen_in variables.new.items ≡ seen_in variables.old.items) }
@@ -94,11 +98,11 @@ pub(crate) fn take_step<P: RefPool>(
 ) -> Result<StepResult, NoMemory>
     requires held { AreOf (P.is_of pool.old) variables.old.items }
     requires enough { IsEnoughUnit unit }
-    ensures ok { let adds = P.adds pool.old pool.new in let same = pool.new ≡ pool.old in
+    ensures ok { let did = DoesAll P.adds who pool.old pool.new in
         let vs = seen_in variables.old.items in
         let came = λ (n : Numbers). Some (unit_came n who.step answer unit vs) in
         let after = seen_in variables.new.items in
-        IfOk result (λ r. Acts adds same who came vs after (Some r)) }
+        IfOk result (λ r. Acts did came vs after (Some r)) }
     ensures of { AreOf (P.is_of pool.new) variables.new.items }
     ensures err { OnErr result (P.stays pool.old pool.new) }
     ensures same { OnErr result (seen_in variables.new.items ≡ seen_in variables.old.items) }
@@ -161,12 +165,12 @@ fn clone_step<P: RefPool>(
     variables: &mut Vec<Option<Medium>>,
 ) -> Result<StepResult, NoMemory>
     requires { AreOf (P.is_of pool.old) variables.old.items }
-    ensures ok { let adds = P.adds pool.old pool.new in let same = pool.new ≡ pool.old in
+    ensures ok { let did = DoesAll P.adds who pool.old pool.new in
         let vs = seen_in variables.old.items in
         let came = λ (n : Numbers). Some (if_there (medium_at vs of) vs
         (λ m. clone_held n who.step m.shape m.held vs)) in
         let after = seen_in variables.new.items in
-        IfOk result (λ r. Acts adds same who came vs after (Some r)) }
+        IfOk result (λ r. Acts did came vs after (Some r)) }
     ensures of { AreOf (P.is_of pool.new) variables.new.items }
     ensures err { OnErr result (P.stays pool.old pool.new) }
     ensures same { OnErr result (seen_in variables.new.items ≡ seen_in variables.old.items) }
@@ -187,7 +191,7 @@ fn transfer_variable(variable: &mut Option<Medium>) -> Given
     }
 }
 
-fn transfer_at(variables: &mut Vec<Option<Medium>>, of: u32) -> Given
+pub(crate) fn transfer_at(variables: &mut Vec<Option<Medium>>, of: u32) -> Given
     ensures given { result ≡ transferred_at (medium_at variables.old.items of) }
     ensures detached { variables.new.items
         ≡ changed_at without_reference of variables.old.items }
@@ -207,12 +211,12 @@ fn transfer_step<P: RefPool>(
     variables: &mut Vec<Option<Medium>>,
 ) -> Result<StepResult, NoMemory>
     requires { AreOf (P.is_of pool.old) variables.old.items }
-    ensures ok { let adds = P.adds pool.old pool.new in let same = pool.new ≡ pool.old in
+    ensures ok { let did = DoesAll P.adds who pool.old pool.new in
         let vs = seen_in variables.old.items in
         let came = λ (n : Numbers). Some (if_there (medium_at vs of) vs
         (λ m. transfer_held who.step of m m.held vs)) in
         let after = seen_in variables.new.items in
-        IfOk result (λ r. Acts adds same who came vs after (Some r)) }
+        IfOk result (λ r. Acts did came vs after (Some r)) }
     ensures of { AreOf (P.is_of pool.new) variables.new.items }
     ensures pool { pool.new ≡ pool.old }
     ensures same { OnErr result (seen_in variables.new.items ≡ seen_in variables.old.items) }
@@ -246,11 +250,11 @@ fn close_step<P: RefPool>(
     variables: &mut Vec<Option<Medium>>,
 ) -> StepResult
     requires { AreOf (P.is_of pool.old) variables.old.items }
-    ensures acts { let adds = P.adds pool.old pool.new in let same = pool.new ≡ pool.old in
+    ensures acts { let did = DoesAll P.adds who pool.old pool.new in
         let vs = seen_in variables.old.items in
         let came = λ (n : Numbers). Some (if_there (medium_at vs of) vs
         (λ m. close_held of m m.held vs)) in
-        Acts adds same who came vs (seen_in variables.new.items) (Some result) }
+        Acts did came vs (seen_in variables.new.items) (Some result) }
     ensures of { let vs = variables.old.items in
         StayOf (P.is_of pool.old) (P.is_of pool.new) vs variables.new.items }
 {
@@ -298,7 +302,7 @@ fn size_step(
 }
 
 /// What the variable of a step holds.
-fn medium_at(variables: &[Option<Medium>], of: u32) -> Option<&Medium>
+pub(crate) fn medium_at(variables: &[Option<Medium>], of: u32) -> Option<&Medium>
     ensures { option_map (λ m. seen m.now) result ≡ medium_at (seen_in variables.now) of }
 {
     whole_at(variables, of)
@@ -350,7 +354,7 @@ pub(crate) fn find_medium(variables: &[Option<Medium>], of: u32) -> MediumFound
     }
 }
 
-/// A step of a caller that takes no output; none of one that encodes or is to take one.
+/// A step of a caller that takes no output and uses no port; none of one that encodes or is to take an output.
 #[tactic(auto, using(crate::proofs::OfLaws::stay_of, crate::proofs::StepLaws::codecs_act))]
 pub(crate) fn media_step<P: RefPool>(
     alloc: Global,
@@ -360,12 +364,14 @@ pub(crate) fn media_step<P: RefPool>(
     step: &MediaStep,
     variables: &mut Vec<Option<Medium>>,
 ) -> Result<Option<StepResult>, NoMemory>
-    requires { AreOf (P.is_of pool.old) variables.old.items }
-    ensures ok { let adds = P.adds pool.old pool.new in let same = pool.new ≡ pool.old in
-        let b : Brought = record { chunk = chunk.now; taken = None } in
+    requires held { AreOf (P.is_of pool.old) variables.old.items }
+    requires apart { MayMakeAndEnd P.adds P.is_of pool.old (seen_in variables.old.items) }
+    requires ports { uses_port step.now ≡ false }
+    ensures ok { let did = DoesAll P.adds who pool.old pool.new in
+        let b : Brought = record { chunk = chunk.now; taken = None; received = None } in
         let vs = seen_in variables.old.items in
         let came = λ (n : Numbers). media_came n who b step.now vs in
-        IfOk result (Acts adds same who came vs (seen_in variables.new.items)) }
+        IfOk result (Acts did came vs (seen_in variables.new.items)) }
     ensures of { let vs = variables.old.items in
         StayOf (P.is_of pool.old) (P.is_of pool.new) vs variables.new.items }
     ensures err { OnErr result (P.stays pool.old pool.new) }
@@ -376,6 +382,10 @@ pub(crate) fn media_step<P: RefPool>(
         MediaStep::Encode { .. } | MediaStep::Take { .. } => return Ok(None),
         MediaStep::Audio { bind: _, init } => audio_step(alloc, pool, who, init, variables)?,
         MediaStep::Frame { bind: _, init } => frame_step(alloc, pool, who, init, variables)?,
+        MediaStep::Buffer { bind: _, content } => {
+            buffer_step(alloc, pool, who, content.as_slice(), variables)?
+        }
+        MediaStep::Buffered { bind: _, init } => buffered_step(alloc, pool, who, init, variables)?,
         MediaStep::Clone { of, bind: _ } => clone_step(pool, who, of.step, variables)?,
         MediaStep::Transfer { of, bind: _ } => transfer_step(pool, who, of.step, variables)?,
         MediaStep::CloseData { of } => close_step(pool, who, of.step, variables),
@@ -383,6 +393,7 @@ pub(crate) fn media_step<P: RefPool>(
             copy_step(alloc, variables, chunk, of.step, options, *size)?
         }
         MediaStep::Size { of, options } => size_step(alloc, variables, of.step, options)?,
+        MediaStep::Post { .. } | MediaStep::Receive { .. } => unreachable!(),
     };
     Ok(Some(answer))
 }

@@ -11,3 +11,6 @@ returns-in-Frame c = ap (λ (m : WholeMedium). chunk_in_medium (seen m)) (ap who
 
 pub returns-in-Chunk : goal.returns-in-Chunk
 returns-in-Chunk c = ap (λ (m : WholeMedium). chunk_in_medium (seen m)) (ap whole_of (sym c.in-Chunk.is) ∙ c.self.view_is)
+
+pub returns-in-Buffer : goal.returns-in-Buffer
+returns-in-Buffer c = ap (λ (m : WholeMedium). chunk_in_medium (seen m)) (ap whole_of (sym c.in-Buffer.is) ∙ c.self.view_is)
