@@ -74,8 +74,10 @@ third_plain l fits = elim (eqb l.count 3) as (λ q. Plain (cond q (codes "," ++ 
   | false ↦ none
 ]
 
-result_plain : (script : ScriptData) (r : StepResult) → AreNames script → FitsResult script r → Plain (result_text script.codecs r)
+result_plain : (script : ScriptData) (r : StepResult) → AreNames script → FitsResult script r → Plain (result_text script.callers script.codecs r)
 result_plain script StepResult.Absent names fits = search plain depth 30
+result_plain script StepResult.Nothing names fits = search plain depth 30
+result_plain script (StepResult.From who) names fits = search (names.callers_are_words, plain) depth 30
 result_plain script _ names fits = search (answers.word, states.word, promise_plain, third_plain, names.codecs_are_words, plain) depth 60
 
 outcome_plain : (o : Outcome) → FitsOutcome o → Plain (outcome_text o)

@@ -26,7 +26,7 @@ use Rattle.report_lines.specs.Words.{◌>>=◌, after, is_word_byte, word_at}
 use Rattle.report_lines.specs.{Fields.short, Fields.bytes_upto, FieldLaws.FitsOrAbsent}
 use Rattle.report_lines.proofs.WordLaws.{upto_again, after_again, after_only, word_again}
 use Rattle.report_lines.proofs.FieldLaws.{number_again, short_again, signed_again, number_or_dash_again, bytes_again, decimal_digits, decimal_word, decimal_not_nil, hex_word}
-use Rattle.report_lines.specs.Reading.{caller_of, codec_of, error_at, answer_at, promise_at, look_at, look_line_at, call_result_at, unit_at, layout_at, two_layouts_at, three_layouts_at, layouts_at, copied_bytes_at, copied_frame_at, copied_at, copied_line_at, outcome_at, turn_at, start_at, done_at, call_at, take_at, ground_at, coder_at, refused_at, acquired_at, given_at, op_at, slot_at, made_at, cloned_at, ended_at, pool_op_at, reference_at, is_slot_word, is_pool_word, dotted_line_at, worded_result_at, worded_line_at, numbered_line_at, sound_at, image_at, chunk_at, output_at, config_at, reject_at, event_at, event_line_at, codec_at, caller_at, headed_line_at, only_line_at, line_at}
+use Rattle.report_lines.specs.Reading.{caller_of, codec_of, error_at, answer_at, promise_at, look_at, look_line_at, call_result_at, unit_at, layout_at, two_layouts_at, three_layouts_at, layouts_at, copied_bytes_at, copied_frame_at, copied_at, copied_line_at, outcome_at, turn_at, start_at, done_at, call_at, take_at, ground_at, coder_at, refused_at, acquired_at, given_at, op_at, slot_at, made_at, cloned_at, ended_at, pool_op_at, reference_at, is_slot_word, is_pool_word, dotted_line_at, poster_at, worded_result_at, worded_line_at, numbered_line_at, sound_at, image_at, chunk_at, output_at, config_at, reject_at, event_at, event_line_at, codec_at, caller_at, headed_line_at, only_line_at, line_at}
 use Rattle.report_lines.specs.Fits.{AreNames, IsCaller, IsCodec, FitsLayout, no_layout, FitsLayouts, FitsResult, FitsOutcome, FitsEntryLine, FitsEventLine, FitsBy, FitsPoolOp, FitsOp, FitsLine}
 use Rattle.report_lines.proofs.WordTables.{errors, answers, kinds, grounds, states, calls, sample_formats, picture_formats, codec_ids, roles, keys, lasts}
 
@@ -176,23 +176,36 @@ unfolding only_line_at
 numbered_first script n rest lt = rw (word_again 32 (decimal n) rest (decimal_word n lt) refl, decimal_not_nil n lt, decimal_digits n lt) refl
 
 -- an answer is not the word of a copy, nor that of a result or an entry
-answer_next : (n : ℕ) (a : Option DomError) (x : Option Line) (rest : List ℕ) → cond (bytes_eq (answer_text a) (codes "copied")) x (worded_line_at n (answer_text a) rest) ≡ Some (Line.Result n (StepResult.Local a))
+answer_next : (script : ScriptData) (n : ℕ) (a : Option DomError) (x : Option Line) (rest : List ℕ) → cond (bytes_eq (answer_text a) (codes "copied")) x (worded_line_at script n (answer_text a) rest) ≡ Some (Line.Result n (StepResult.Local a))
 unfolding worded_line_at worded_result_at
-answer_next n a x rest = grind arith
+answer_next script n a x rest = grind arith
 
 copied_next : (script : ScriptData) (n : ℕ) (r : StepResult) (text : List ℕ) → n < 2 ^ 64 → copied_at text ≡ Some r → only_line_at script (decimal n ++ 32 ∷ (codes "copied " ++ text)) ≡ Some (Line.Result n r)
 unfolding numbered_line_at copied_line_at
 copied_next script n r text lt found = numbered_first script n (codes "copied " ++ text) lt ∙ rw (number_again 32 n (codes "copied " ++ text) lt refl, found) refl
 
-result_again : (script : ScriptData) (step : ℕ) (r : StepResult) (rest : List ℕ) → AreNames script → step < 2 ^ 64 → FitsResult script r → only_line_at script (line_text script (Line.Result step r) ++ rest) ≡ Some (Line.Result step r)
+abbrev IsResultAgain : ScriptData → ℕ → StepResult → List ℕ → Type 0
+IsResultAgain script step r rest = only_line_at script (line_text script (Line.Result step r) ++ rest) ≡ Some (Line.Result step r)
+
+state_again : (script : ScriptData) (step n len : ℕ) (state : CodecState) (size : ℕ) (rest : List ℕ) → AreNames script → step < 2 ^ 64 → FitsResult script (StepResult.State n len state size)
+    → IsResultAgain script step (StepResult.State n len state size) rest
+unfolding only_line_at look_line_at numbered_line_at look_at
+state_again script step n len state size rest names lt fits = search (fields, states.word, states.again, state_alone, codec_again script, names.codecs_are_words) depth 20
+
+from_again : (script : ScriptData) (step : ℕ) (who : Who) (rest : List ℕ) → AreNames script → step < 2 ^ 64 → FitsResult script (StepResult.From who) → IsResultAgain script step (StepResult.From who) rest
+unfolding only_line_at numbered_line_at worded_line_at worded_result_at poster_at
+from_again script step who rest names lt fits = search (fields, short_again, caller_again script, names.callers_are_words) depth 20
+
+result_again : (script : ScriptData) (step : ℕ) (r : StepResult) (rest : List ℕ) → AreNames script → step < 2 ^ 64 → FitsResult script r → IsResultAgain script step r rest
 unfolding only_line_at dotted_line_at look_line_at numbered_line_at call_result_at unit_at worded_line_at worded_result_at copied_line_at look_at
 result_again script step (StepResult.Local error) rest names lt fits = simp append_assoc (
     numbered_first script step (answer_text error ++ 10 ∷ rest) lt
-    ∙ rw (number_again 32 step _ lt refl, word_again 10 (answer_text error) rest (answers.word error) refl) (answer_next step error _ rest))
+    ∙ rw (number_again 32 step _ lt refl, word_again 10 (answer_text error) rest (answers.word error) refl) (answer_next script step error _ rest))
 result_again script step (StepResult.CopiedFrame n layouts bytes) rest names lt fits =
     let regrouped : line_text script (Line.Result step (StepResult.CopiedFrame n layouts bytes)) ++ rest ≡ decimal step ++ 32 ∷ (codes "copied " ++ (decimal n ++ 32 ∷ (layouts_text layouts ++ 32 ∷ (hex_or_dash bytes ++ 10 ∷ rest)))) = simp append_assoc in
     ap (only_line_at script) regrouped ∙ copied_next script step (StepResult.CopiedFrame n layouts bytes) _ lt (frame_again n layouts bytes rest fits.0 fits.1 fits.2)
-result_again script step (StepResult.State n len state size) rest names lt fits = search (fields, states.word, states.again, state_alone, codec_again script, names.codecs_are_words) depth 20
+result_again script step (StepResult.From who) rest names lt fits = from_again script step who rest names lt fits
+result_again script step (StepResult.State n len state size) rest names lt fits = state_again script step n len state size rest names lt fits
 result_again script step _ rest names lt fits = search (fields, answers.word, answers.again, look_again, copied_again, codec_again script, names.codecs_are_words) depth 20
 
 -- ---- entries of codecs

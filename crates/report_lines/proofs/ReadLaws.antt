@@ -13,9 +13,9 @@ use Rattle.report_lines.specs.Fields.{short, number_upto, short_upto, signed_upt
 use Rattle.report_lines.specs.FieldLaws.{Lacks, FitsOrAbsent}
 use Rattle.report_lines.proofs.FieldFits.{bind_fits, bind_any, if_fits, upto_fits, number_fits, short_of_fits, short_fits, signed_fits, number_or_dash_fits, bytes_fits}
 use Rattle.report_text.specs.Text.{line_text}
-use Rattle.wc_base.specs.declared.who.By.{By}
-use Rattle.report_lines.specs.Reading.{caller_of, look_as, look_at, look_line_at, call_result_at, unit_at, layout_at, two_layouts_at, three_layouts_at, layouts_at, copied_bytes_at, copied_frame_at, copied_at, copied_line_at, outcome_at, start_at, done_at, call_at, take_at, ground_at, by_as, by_of, refused_at, acquired_at, given_at, op_at, slot_at, made_at, cloned_at, ended_at, pool_op_at, reference_at, dotted_line_at, worded_result_at, worded_line_at, numbered_line_at, sound_at, image_at, chunk_at, output_at, without_feed, config_at, reject_at, event_at, event_line_at, codec_at, caller_at, headed_line_at, only_line_at, line_at}
-use Rattle.report_lines.specs.Fits.{is_no_feed, IsCaller, IsCodec, FitsLayout, no_layout, FitsLayouts, FitsResult, FitsOutcome, FitsEntryLine, FitsEventLine, FitsBy, FitsPoolOp, FitsOp, FitsLine}
+use Rattle.wc_base.specs.declared.who.{Who.Who, By.By}
+use Rattle.report_lines.specs.Reading.{caller_of, look_as, look_at, look_line_at, call_result_at, unit_at, layout_at, two_layouts_at, three_layouts_at, layouts_at, copied_bytes_at, copied_frame_at, copied_at, copied_line_at, outcome_at, start_at, done_at, call_at, take_at, ground_at, by_as, by_of, refused_at, acquired_at, given_at, op_at, slot_at, made_at, cloned_at, ended_at, pool_op_at, reference_at, dotted_line_at, poster_at, worded_result_at, worded_line_at, numbered_line_at, sound_at, image_at, chunk_at, output_at, without_feed, config_at, reject_at, event_at, event_line_at, codec_at, caller_at, headed_line_at, only_line_at, line_at}
+use Rattle.report_lines.specs.Fits.{is_no_feed, IsCaller, IsCodec, FitsLayout, no_layout, FitsLayouts, FitsResult, FitsOutcome, FitsWho, FitsEntryLine, FitsEventLine, FitsBy, FitsPoolOp, FitsOp, FitsLine}
 
 -- ---- fields, and what is made of them
 
@@ -88,9 +88,16 @@ looked_fits : (script : ScriptData) (step : ℕ) (name bs : List ℕ) → step <
 unfolding look_line_at look_at
 looked_fits script step name bs lt = search (bind_fits (FitsResult script) (FitsLine script), look_as_fits, reading) depth 16
 
-worded_fits : (script : ScriptData) (n : ℕ) (w rest : List ℕ) → n < 2 ^ 64 → IfSome (worded_line_at n w rest) (FitsLine script)
+poster_fits : (script : ScriptData) (bs : List ℕ) → IfSome (poster_at script bs) (FitsWho script)
+unfolding poster_at
+poster_fits script bs = search reading depth 16
+
+poster_then : {B : Type 0} (P : B → Type 0) (script : ScriptData) (bs : List ℕ) (f : Who → Option B) → ((who : Who) → FitsWho script who → IfSome (f who) P) → IfSome (poster_at script bs >>= f) P
+poster_then P script bs f = bind_fits (FitsWho script) P (poster_at script bs) f (poster_fits script bs)
+
+worded_fits : (script : ScriptData) (n : ℕ) (w rest : List ℕ) → n < 2 ^ 64 → IfSome (worded_line_at script n w rest) (FitsLine script)
 unfolding worded_line_at worded_result_at start_at done_at outcome_at
-worded_fits script n w rest lt = search (bind_fits (FitsEntryLine script) (FitsLine script), bind_fits FitsOutcome (FitsEntryLine script), reading) depth 24
+worded_fits script n w rest lt = search (poster_then, bind_fits (FitsEntryLine script) (FitsLine script), bind_fits FitsOutcome (FitsEntryLine script), reading) depth 24
 
 numbered_fits : (script : ScriptData) (bs : List ℕ) → IfSome (numbered_line_at script bs) (FitsLine script)
 unfolding numbered_line_at copied_line_at

@@ -69,6 +69,8 @@ FitsResult script (result.NoUnit n len) = IsCodec script n × (len < 2 ^ 64)
 FitsResult script (result.Copied n bytes) = (n < 2 ^ 64) × IsBytes bytes
 FitsResult script (result.CopiedFrame n layouts bytes) = (n < 2 ^ 64) × FitsLayouts layouts × IsBytes bytes
 FitsResult script (result.Size n) = n < 2 ^ 64
+FitsResult script (result.From who) = FitsWho script who
+FitsResult script result.Nothing = Unit {0}
 FitsResult script result.Absent = Unit {0}
 
 abbrev pub FitsOutcome : Outcome → Type 0

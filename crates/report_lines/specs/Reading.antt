@@ -4,6 +4,7 @@ use Rattle.std.specs.Prelude.{ℕ, Bool, List, [], codes, Option, Some, None, �
 use Rattle.std.specs.List.{list_all}
 use Rattle.std.specs.Char.{is_ascii_digit}
 use Rattle.wc_base.specs.declared.error.DomError.{DomError}
+use Rattle.wc_base.specs.declared.who.Who.{Who}
 use Rattle.wc_base.specs.declared.who.By.{By}
 use Rattle.wc_base.specs.declared.who.By.TheVariants as by
 use Rattle.wc_config.specs.declared.codec.CoderId.{CoderId}
@@ -309,19 +310,29 @@ dotted_line_at script n name bs = do
       else if bytes_eq w.0 (codes "ground") then ground_at script n name m.0 w.2
       else call_at script n name m.0 w.0 w.2
 
-unfoldable pub worded_result_at : ℕ → List ℕ → List ℕ → Option Line
-worded_result_at n w rest =
+-- the step that posted what was received
+unfoldable pub poster_at : ScriptData → List ℕ → Option Who
+poster_at script bs = do
+  name ← word_at bs
+  c ← caller_of script.callers name.0
+  step ← short_upto 10 name.2
+  Some (record { caller = c; step = step.0 })
+
+unfoldable pub worded_result_at : ScriptData → ℕ → List ℕ → List ℕ → Option Line
+worded_result_at script n w rest =
     if bytes_eq w (codes "size") then (number_upto 10 rest >>= λ m. Some (line.Result n (result.Size m.0)))
     else if bytes_eq w (codes "absent") then Some (line.Result n result.Absent)
+    else if bytes_eq w (codes "from") then (poster_at script rest >>= λ who. Some (line.Result n (result.From who)))
+    else if bytes_eq w (codes "none") then Some (line.Result n result.Nothing)
     else (answer_of w >>= λ a. Some (line.Result n (result.Local a)))
 
-unfoldable pub worded_line_at : ℕ → List ℕ → List ℕ → Option Line
-worded_line_at n w rest =
+unfoldable pub worded_line_at : ScriptData → ℕ → List ℕ → List ℕ → Option Line
+worded_line_at script n w rest =
     if bytes_eq w (codes "start") then (start_at rest >>= λ e. Some (line.Entry n e))
     else if bytes_eq w (codes "done") then (done_at rest >>= λ e. Some (line.Entry n e))
     else if bytes_eq w (codes "turn") then (turn_at rest >>= λ t. Some (line.Entry n (entry_line.Turn t)))
     else if bytes_eq w (codes "reclaim") then (number_upto 10 rest >>= λ m. Some (line.Entry n (entry_line.Reclaim m.0)))
-    else worded_result_at n w rest
+    else worded_result_at script n w rest
 
 -- behind the number a name with a dot, a name with a colon, or another word
 unfoldable pub numbered_line_at : ScriptData → List ℕ → Option Line
@@ -331,7 +342,7 @@ numbered_line_at script bs = do
   if w.1 == 46 then dotted_line_at script n.0 w.0 w.2
       else if w.1 == 58 then look_line_at script n.0 w.0 w.2
       else if bytes_eq w.0 (codes "copied") then copied_line_at n.0 w.2
-      else worded_line_at n.0 w.0 w.2
+      else worded_line_at script n.0 w.0 w.2
 
 -- What an entry showed.
 

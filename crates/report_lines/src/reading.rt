@@ -501,15 +501,31 @@ fn dotted_line_at(script: &ScriptData, n: u64, name: &[u8], bytes: &[u8]) -> Opt
     }
 }
 
+// The step that posted what was received.
+#[tactic(auto, unfolding(crate::specs::Reading::poster_at))]
+fn poster_at(script: &ScriptData, bytes: &[u8]) -> Option<Who>
+    ensures { result ≡ spec.poster_at script.now bytes.now }
+{
+    let (name, _, rest) = word_at(bytes)?;
+    let caller = caller_of(script.callers.as_slice(), name)?;
+    let (step, _) = short_upto(b'\n', rest)?;
+    Some(Who { caller, step })
+}
+
 #[tactic(auto, unfolding(crate::specs::Reading::worded_result_at))]
-fn worded_result_at(step: u64, word: &[u8], rest: &[u8]) -> Option<Line>
-    ensures { result ≡ spec.worded_result_at step word.now rest.now }
+fn worded_result_at(script: &ScriptData, step: u64, word: &[u8], rest: &[u8]) -> Option<Line>
+    ensures { result ≡ spec.worded_result_at script.now step word.now rest.now }
 {
     let answer = if is(word, "size") {
         let (size, _) = number_upto(b'\n', rest)?;
         StepResult::Size { size }
     } else if is(word, "absent") {
         StepResult::Absent
+    } else if is(word, "from") {
+        let who = poster_at(script, rest)?;
+        StepResult::From { who }
+    } else if is(word, "none") {
+        StepResult::Nothing
     } else {
         let error = answer_of(word)?;
         StepResult::Local { error }
@@ -518,8 +534,8 @@ fn worded_result_at(step: u64, word: &[u8], rest: &[u8]) -> Option<Line>
 }
 
 #[tactic(auto, unfolding(crate::specs::Reading::worded_line_at))]
-fn worded_line_at(n: u64, word: &[u8], rest: &[u8]) -> Option<Line>
-    ensures { result ≡ spec.worded_line_at n word.now rest.now }
+fn worded_line_at(script: &ScriptData, n: u64, word: &[u8], rest: &[u8]) -> Option<Line>
+    ensures { result ≡ spec.worded_line_at script.now n word.now rest.now }
 {
     if is(word, "start") {
         let entry = start_at(rest)?;
@@ -540,7 +556,7 @@ fn worded_line_at(n: u64, word: &[u8], rest: &[u8]) -> Option<Line>
             entry: EntryLine::Reclaim { moment },
         })
     } else {
-        worded_result_at(n, word, rest)
+        worded_result_at(script, n, word, rest)
     }
 }
 
@@ -559,7 +575,7 @@ fn numbered_line_at(alloc: Global, script: &ScriptData, bytes: &[u8]) -> Result<
     } else if is(word, "copied") {
         copied_line_at(alloc, n, rest)
     } else {
-        worded_line_at(n, word, rest).ok_or(FieldFault::NoField)
+        worded_line_at(script, n, word, rest).ok_or(FieldFault::NoField)
     }
 }
 

@@ -65,18 +65,21 @@ copied_text n = codes "copied " <> decimal n <> codes " "
 abbrev pub copied_frame_text : ℕ → Layouts → List ℕ
 copied_frame_text n layouts = codes "copied " <> decimal n <> codes " " <> layouts_text layouts <> codes " "
 
-abbrev pub result_text : List CodecItem → StepResult → List ℕ
-result_text codecs (result.Call n place error) = entry_name codecs n place <> codes " " <> answer_text error
-result_text codecs (result.Local error) = answer_text error
-result_text codecs (result.Look n length end) = look_name codecs n length <> codes " " <> promise_text end
-result_text codecs (result.State n length state size) =
+-- what a step came to; one that receives a medium names the step that posted it, or there was none
+abbrev pub result_text : List CallerItem → List CodecItem → StepResult → List ℕ
+result_text callers codecs (result.Call n place error) = entry_name codecs n place <> codes " " <> answer_text error
+result_text callers codecs (result.Local error) = answer_text error
+result_text callers codecs (result.Look n length end) = look_name codecs n length <> codes " " <> promise_text end
+result_text callers codecs (result.State n length state size) =
     look_name codecs n length <> codes " " <> state_text state <> codes " " <> decimal size
-result_text codecs (result.Unit n place number) = entry_name codecs n place <> codes " unit " <> decimal number
-result_text codecs (result.NoUnit n length) = look_name codecs n length <> codes " none"
-result_text codecs (result.Copied n bytes) = copied_text n ++ hex_or_dash bytes
-result_text codecs (result.CopiedFrame n layouts bytes) = copied_frame_text n layouts ++ hex_or_dash bytes
-result_text codecs (result.Size n) = codes "size " <> decimal n
-result_text codecs result.Absent = codes "absent"
+result_text callers codecs (result.Unit n place number) = entry_name codecs n place <> codes " unit " <> decimal number
+result_text callers codecs (result.NoUnit n length) = look_name codecs n length <> codes " none"
+result_text callers codecs (result.Copied n bytes) = copied_text n ++ hex_or_dash bytes
+result_text callers codecs (result.CopiedFrame n layouts bytes) = copied_frame_text n layouts ++ hex_or_dash bytes
+result_text callers codecs (result.Size n) = codes "size " <> decimal n
+result_text callers codecs (result.From who) = codes "from " <> who_text callers who
+result_text callers codecs result.Nothing = codes "none"
+result_text callers codecs result.Absent = codes "absent"
 
 -- ---- entries of codecs
 
@@ -195,7 +198,7 @@ codec_line name opening =
 abbrev pub line_text : ScriptData → Line → List ℕ
 line_text script line.Header = codes "wcrun report 1\n"
 line_text script (line.Caller n) = codes "caller " <> caller_name script.callers n <> codes "\n"
-line_text script (line.Result step answer) = numbered_line step (result_text script.codecs answer)
+line_text script (line.Result step answer) = numbered_line step (result_text script.callers script.codecs answer)
 line_text script (line.Codec n opening) = codec_line (codec_name script.codecs n) opening
 line_text script (line.Entry place e) = numbered_line place (entry_text script.callers e)
 line_text script (line.Event e) = event_text e

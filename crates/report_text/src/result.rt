@@ -3,7 +3,7 @@ ghost use Rattle.std.specs.Prelude.{◌≡◌, IfOk};
 
 use bytes::Bytes;
 use codec_model::{CodecState, PromiseState};
-use wc_base::{DomError, NoMemory};
+use wc_base::{DomError, NoMemory, Who};
 use wc_video::Layouts;
 
 /// What a step of a caller came to.
@@ -58,6 +58,12 @@ pub enum StepResult {
     Size {
         size: u64,
     },
+    /// A receive from a port got the medium that this step posted.
+    From {
+        who: Who,
+    },
+    /// A receive from a port found nothing.
+    Nothing,
     /// The step's variable is absent: nothing was called.
     Absent,
 }
@@ -101,6 +107,8 @@ impl StepResult {
                 bytes: bytes.clone()?,
             },
             StepResult::Size { size } => StepResult::Size { size },
+            StepResult::From { who } => StepResult::From { who },
+            StepResult::Nothing => StepResult::Nothing,
             StepResult::Absent => StepResult::Absent,
         })
     }

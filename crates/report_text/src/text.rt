@@ -68,7 +68,7 @@ fn push_call_result(
 ) -> Result<(), AllocError>
     ensures { OnOk result
         (line.new.items
-        ≡ line.old.items ++ spec.result_text codecs.now (came.Call codec place error)) }
+        ≡ line.old.items ++ spec.result_text [] codecs.now (came.Call codec place error)) }
 {
     push_entry_name(line, codecs, codec, place)?;
     push_text(line, " ")?;
@@ -84,7 +84,7 @@ fn push_look_result(
 ) -> Result<(), AllocError>
     ensures { OnOk result
         (line.new.items
-        ≡ line.old.items ++ spec.result_text codecs.now (came.Look codec length end)) }
+        ≡ line.old.items ++ spec.result_text [] codecs.now (came.Look codec length end)) }
 {
     push_look_name(line, codecs, codec, length)?;
     push_text(line, " ")?;
@@ -101,7 +101,7 @@ fn push_state_result(
 ) -> Result<(), AllocError>
     ensures { OnOk result
         (line.new.items
-        ≡ line.old.items ++ spec.result_text codecs.now (came.State codec length state size)) }
+        ≡ line.old.items ++ spec.result_text [] codecs.now (came.State codec length state size)) }
 {
     push_look_name(line, codecs, codec, length)?;
     push_text(line, " ")?;
@@ -119,7 +119,7 @@ fn push_unit_result(
 ) -> Result<(), AllocError>
     ensures { OnOk result
         (line.new.items
-        ≡ line.old.items ++ spec.result_text codecs.now (came.Unit codec place number)) }
+        ≡ line.old.items ++ spec.result_text [] codecs.now (came.Unit codec place number)) }
 {
     push_entry_name(line, codecs, codec, place)?;
     push_text(line, " unit ")?;
@@ -133,7 +133,7 @@ fn push_no_unit(
     length: u64,
 ) -> Result<(), AllocError>
     ensures { OnOk result
-        (line.new.items ≡ line.old.items ++ spec.result_text codecs.now (came.NoUnit codec length)) }
+        (line.new.items ≡ line.old.items ++ spec.result_text [] codecs.now (came.NoUnit codec length)) }
 {
     push_look_name(line, codecs, codec, length)?;
     push_text(line, " none")
@@ -169,21 +169,30 @@ fn push_frame_copy(
 
 fn push_size(line: &mut Vec<u8>, size: u64) -> Result<(), AllocError>
     ensures { OnOk result
-        (line.new.items ≡ line.old.items ++ spec.result_text [] (came.Size size)) }
+        (line.new.items ≡ line.old.items ++ spec.result_text [] [] (came.Size size)) }
 {
     push_text(line, "size ")?;
     push_number(line, size)
 }
 
+fn push_from(line: &mut Vec<u8>, callers: &[CallerItem], who: Who) -> Result<(), AllocError>
+    ensures { OnOk result
+        (line.new.items ≡ line.old.items ++ spec.result_text callers.now [] (came.From who)) }
+{
+    push_text(line, "from ")?;
+    push_step(line, callers, who)
+}
+
 // What a step came to.
 fn push_result(
     line: &mut Vec<u8>,
-    codecs: &[CodecItem],
+    script: &ScriptData,
     answer: &StepResult,
 ) -> Result<(), AllocError>
     ensures { OnOk result
-        (line.new.items ≡ line.old.items ++ spec.result_text codecs.now answer.now) }
+        (line.new.items ≡ line.old.items ++ spec.result_text script.now.callers script.now.codecs answer.now) }
 {
+    let codecs = script.codecs.as_slice();
     match answer {
         StepResult::Call {
             codec,
@@ -213,6 +222,8 @@ fn push_result(
             bytes,
         } => push_frame_copy(line, *count, *layouts, bytes.as_slice()),
         StepResult::Size { size } => push_size(line, *size),
+        StepResult::From { who } => push_from(line, script.callers.as_slice(), *who),
+        StepResult::Nothing => push_text(line, "none"),
         StepResult::Absent => push_text(line, "absent"),
     }
 }
@@ -423,7 +434,7 @@ fn push_result_line(
 {
     push_number(line, step)?;
     push_text(line, " ")?;
-    push_result(line, script.codecs.as_slice(), answer)?;
+    push_result(line, script, answer)?;
     push_text(line, "\n")
 }
 
