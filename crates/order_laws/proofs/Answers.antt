@@ -1,5 +1,5 @@
 -- What steps on media answer, to which no output is brought, is neither a call of a codec, nor a look at one, nor a take.
-use Rattle.std.proofs.Common.{ℕ, ◌≡◌, List, [], Option, Some, None, Result, Ok, Err, refl, rules}
+use Rattle.std.proofs.Common.{ℕ, ◌≡◌, List, [], Option, Some, None, Result, Ok, Err, refl, sym, subst, rules}
 use Rattle.std.specs.Prelude.{unwrap_or, option_map}
 use Rattle.wc_base.specs.declared.{error.DomError.DomError, who.Who.Who}
 use Rattle.wc_chunk.specs.{declared.chunk.Chunk.Chunk, Copied.copied_count, Copied.copied_to}
@@ -9,8 +9,8 @@ use Rattle.wc_video.specs.Copies as video
 use Rattle.codec_accounts.specs.Calls as mark
 use Rattle.script_types.specs.declared.{script.ScriptData.ScriptData, options.Options.Options, steps.MediaStep.MediaStep, steps.Step.Step}
 use Rattle.report_text.specs.declared.result.StepResult.{StepResult}
-use Rattle.media_variables.specs.Variables.{Reference, Shape, SoundOf, PictureOf, Medium, Numbers, Came, zeros, sound_of, frame_of, copy_options, rect_of, layouts_in, audio_copied, frame_copied, planes_copied, chunk_copied, size_found, copy_chunk, copy_medium, size_of_medium, chunk_of_variable, media_came}
-use Rattle.media_variables.specs.CameLaws.{by_came}
+use Rattle.media_variables.specs.Variables.{Reference, Shape, SoundOf, PictureOf, Medium, Numbers, Came, Received, zeros, sound_of, frame_of, copy_options, rect_of, layouts_in, audio_copied, frame_copied, planes_copied, chunk_copied, size_found, copy_chunk, copy_medium, size_of_medium, chunk_of_variable, media_came, all_but, adopted_in, steps_in}
+use Rattle.media_variables.specs.CameLaws.{by_came, lets_each, made_answer}
 use Rattle.run_model.specs.Recorded.{Recorded}
 use Rattle.order_laws.proofs.Grown.{IsFound, brought}
 use Rattle.run_model.specs.Fits.{mark_of, taken_by, IsResultOf, LookShows, IsLocalAnswer}
@@ -28,11 +28,11 @@ pub record OwnFacts (s : ScriptData) (files : List (List Chunk)) (w : Recorded) 
   pub took : taken_by s w (Some r) ≡ None
 
 -- a step on media answers what it comes to
-pub own_facts : (s : ScriptData) (files : List (List Chunk)) (w : Recorded) (n : Numbers) (who : Who) (chunk : Option Chunk) (before vs : List (Option Medium)) (y : Came) (c : ℕ) (x : MediaStep) (r : StepResult)
-    → media_came n who (brought chunk None) x vs ≡ Some y → IsOwn r → r ≡ y.answer → OwnFacts s files w who before y c x r
-own_facts s files w n who chunk before vs y c x (StepResult.Call k place error) comes own same = absurd cc
-own_facts s files w n who chunk before vs y c (MediaStep.CloseData of) r comes own same = search rules
-own_facts s files w n who chunk before vs y c x r comes own same = search rules
+pub own_facts : (s : ScriptData) (files : List (List Chunk)) (w : Recorded) (n : Numbers) (who : Who) (chunk : Option Chunk) (received : Option Received) (before vs : List (Option Medium)) (y : Came) (c : ℕ) (x : MediaStep) (r : StepResult)
+    → media_came n who (brought chunk None received) x vs ≡ Some y → IsOwn r → r ≡ y.answer → OwnFacts s files w who before y c x r
+own_facts s files w n who chunk received before vs y c x (StepResult.Call k place error) comes own same = absurd cc
+own_facts s files w n who chunk received before vs y c (MediaStep.CloseData of) r comes own same = search rules
+own_facts s files w n who chunk received before vs y c x r comes own same = search rules
 
 -- ---- copies and sizes
 
@@ -62,12 +62,17 @@ size_own shape held o = refl
 -- ---- every step
 
 -- where no output is brought to it
-pub media_own : (n : Numbers) (who : Who) (chunk : Option Chunk) (x : MediaStep) (vs : List (Option Medium)) (y : Came) → media_came n who (brought chunk None) x vs ≡ Some y → IsOwn y.answer
-media_own n who chunk x vs y = by_came n who (brought chunk None) vs (λ z came. IsOwn came.answer) (record {
+pub media_own : (n : Numbers) (who : Who) (chunk : Option Chunk) (received : Option Received) (x : MediaStep) (vs : List (Option Medium)) (y : Came) → media_came n who (brought chunk None received) x vs ≡ Some y → IsOwn y.answer
+media_own n who chunk received x vs y = by_came n who (brought chunk None received) vs (λ z came. IsOwn came.answer) (record {
   refuses = λ z e. refl;
   absent = λ z. refl;
   audio = λ bind i. refl;
   frame = λ bind i. refl;
+  buffer = λ bind bytes. refl;
+  buffered = λ bind i valid may. lets_each (λ c. IsOwn c.answer) (λ j c own. own) (all_but (adopted_in i) (steps_in i.transfer)) _ (subst IsOwn (sym (made_answer n who.step i (adopted_in i) vs)) refl);
+  posts = λ to content m r is holds. refl;
+  receives_none = λ from bind kind is. refl;
+  receives = λ from bind kind p is. refl;
   takes = λ on bind kind t is. absurd cc;
   clones = λ of bind m r is holds. refl;
   transfers = λ of bind m r is holds. refl;

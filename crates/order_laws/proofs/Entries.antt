@@ -1,7 +1,7 @@
 -- Each entry that following an order makes is legal; and what one entry more makes of a course: of its codecs and their
 -- histories, and of what codecs call for in the pool's history and hold of it.
-use Rattle.std.proofs.Common.{ℕ, ◌≡◌, ◌≢◌, ◌≤◌, ◌<◌, ◌++◌, ◌⊎◌, inl, inr, Bool, true, false, if◌then◌else◌, eq-eqb, List, [], ◌∷◌, length, length-append, Option, Some, None, is_some, refl, ap, sym, subst, ◌∙◌, arith}
-use Rattle.std.specs.Prelude.{slice_get, unwrap_or}
+use Rattle.std.proofs.Common.{ℕ, ◌≡◌, ◌≢◌, ◌≤◌, ◌<◌, ◌-◌, ◌++◌, ◌⊎◌, inl, inr, Bool, true, false, cond, if◌then◌else◌, eq-eqb, List, [], ◌∷◌, length, length-append, Option, Some, None, is_some, refl, ap, sym, subst, ◌∙◌, arith}
+use Rattle.std.specs.Prelude.{nat_lt, slice_get, unwrap_or}
 use Rattle.std.proofs.Math.Seq.{take-length}
 use Rattle.std.proofs.lemmas.Bool.{cases_eq, cases_lt, lt-ltb}
 use Rattle.std.proofs.lemmas.List.{take-append-le}
@@ -18,12 +18,12 @@ use Rattle.codec_model.specs.Held.{adds_held, lets_go, leaves_held, running_pair
 use Rattle.codec_accounts.specs.{Owed.at, Calls.who_of}
 use Rattle.codec_accounts.specs.ListLaws.{IsNew, at_same, at_other, at_grows, get_end, get_within, result_more}
 use Rattle.codec_accounts.specs.Codec.{CodecValue, state_after, state_of, codec_at, histories, after_entry, slots_after, next_by, step_by, BoxStep, Keep, Give, Renew}
-use Rattle.codec_accounts.specs.AccountLaws.{EntryFits, histories_more, history_at, histories_count, set_here, set_other}
+use Rattle.codec_accounts.specs.AccountLaws.{EntryFits, histories_more, history_at, histories_count, set_count, set_here, set_other}
 use Rattle.script_types.specs.declared.script.ScriptData.{ScriptData}
 use Rattle.media_accounts.specs.Accounts.{called_at, lent_at, Lending, MayAdd, AreParts, EntryMore}
 use Rattle.run_model.specs.Follow.{Course, with_entry, outcome_by, outcome_for}
 use Rattle.run_model.specs.Recorded.{opening_at, take_entry}
-use Rattle.order_laws.specs.Course.{held_by_codecs}
+use Rattle.order_laws.specs.Course.{held_by_codecs, held_by_port, held_by_all}
 
 -- ---- legal entries
 
@@ -116,9 +116,19 @@ this_history v k e lt = ap (at k) (histories_more k e v.slots v.codecs) ∙ at_s
 
 -- ---- what codecs call for in the pool's history, and hold
 
--- of a script's codecs with these histories
-abbrev pub lending_of : ScriptData → List CodecValue → Lending
-lending_of s ds = record { lends = λ k place. lent_at (opening_at s k) (at k (histories ds)) place; holds = held_by_codecs ds }
+-- of a script's codecs with these histories, and what its ports hold
+abbrev pub lending_of : ScriptData → Course → Lending
+lending_of s v = record { lends = λ k place. lent_at (opening_at s k) (at k (histories v.codecs)) place; holds = held_by_all v }
+
+-- the holder with a codec's number is the codec
+codec_holds : (v : Course) (k : ℕ) → k < length v.codecs → held_by_all v k ≡ held_by_codecs v.codecs k
+codec_holds v k lt = rw (lt-ltb k (length v.codecs) lt) refl
+
+-- an entry of one codec leaves what all other holders hold
+others_hold : (v : Course) (k : ℕ) (e : Entry) (l : ℕ) → l ≢ k → held_by_all (with_entry k e v) l ≡ held_by_all v l
+others_hold v k e l other =
+    ap (λ (n : ℕ). cond (nat_lt l n) (held_by_codecs (with_entry k e v).codecs l) (held_by_port (at (l - n) v.ports))) (set_count k (after_entry k e v.slots (codec_at k v.codecs)) v.codecs)
+    ∙ ap (λ (ps : List Pair). cond (nat_lt l (length v.codecs)) ps (held_by_port (at (l - length v.codecs) v.ports))) (ap (λ (c : CodecValue). held_in (state_of c)) (set_other l k (after_entry k e v.slots (codec_at k v.codecs)) v.codecs other))
 
 -- past the end of a history there is nothing
 lent_past : (o : Opening) (h : List Entry) (n : ℕ) → length h ≤ n → lent_at o h n ≡ []
@@ -148,7 +158,7 @@ MayAddAll pool e = (i : ℕ) (p : Pair) → slice_get (adds_held e) i ≡ Some p
 -- the codec with this number takes this entry, and is in this state after it
 pub entry_more : HeldStays → (s : ScriptData) (v : Course) (k : ℕ) (e : Entry) (t : State) → k < length v.codecs → (codec_at k v.codecs).opening ≡ opening_at s k → replay (codec_at k v.codecs).opening (codec_at k v.codecs).history ≡ Some (state_of (codec_at k v.codecs))
     → entry_step e (state_of (codec_at k v.codecs)) ≡ Some t → MayAddAll v.media.pool e
-    → EntryMore (lending_of s v.codecs) (lending_of s (with_entry k e v).codecs) k (length (codec_at k v.codecs).history) e (state_of (codec_at k v.codecs)) v.media.pool
+    → EntryMore (lending_of s v) (lending_of s (with_entry k e v)) k (length (codec_at k v.codecs).history) e (state_of (codec_at k v.codecs)) v.media.pool
 entry_more stays s v k e t lt opened replays steps may =
     let d = codec_at k v.codecs in
     let o = opening_at s k in
@@ -157,15 +167,15 @@ entry_more stays s v k e t lt opened replays steps may =
     let state : state_of (codec_at k (with_entry k e v).codecs) ≡ t = rw (set_here k (after_entry k e v.slots d) v.codecs lt, replay_append d.opening d.history e (state_of d) replays, steps) refl in
     record {
       adds = may;
-      parts = held_parts e (state_of d);
-      holds = ap held_in state ∙ stays e (state_of d) t steps;
+      parts = rw (codec_holds v k lt) (held_parts e (state_of d));
+      holds = codec_holds (with_entry k e v) k (let c = set_count k (after_entry k e v.slots d) v.codecs in omega (arith, c, lt)) ∙ (ap held_in state ∙ stays e (state_of d) t steps);
       fresh = rw now (lent_past o d.history (length d.history) (omega arith));
       lends = rw (longer, get_end d.history e, take-append-le (length d.history) d.history (e ∷ []) (omega arith), take-length d.history, opened) refl;
       other_lends = λ l n other. elim (cases_eq l k) [
         | inr apart ↦ ap (λ (h : List Entry). lent_at (opening_at s l) h n) (same_history v k l e apart)
         | inl same ↦ rw (same, longer, now) (lent_kept o d.history e n (λ place. other same place))
       ];
-      other_holds = λ l other. ap (λ (c : CodecValue). held_in (state_of c)) (set_other l k (after_entry k e v.slots d) v.codecs other);
+      other_holds = others_hold v k e;
     }
 
 -- an entry of no caller adds nothing

@@ -13,7 +13,7 @@ use Rattle.script_types.specs.Names.{called, taken_from}
 use Rattle.report_text.specs.declared.result.StepResult.{StepResult}
 use Rattle.run_model.specs.Recorded.{Recorded, opening_at, output_at, take_entry}
 use Rattle.run_model.specs.Fits.{result_in, step_in, made_steps, taken_by, brought_to, came_at, variables_at, IsResultBy, IsResultOf, LookShows, IsLocalAnswer, MarksClimb}
-use Rattle.media_variables.specs.Variables.{Came, Taken, Brought}
+use Rattle.media_variables.specs.Variables.{Came, Taken, Received, Brought}
 use Rattle.media_accounts.specs.Accounts.{variables_by, IsBroughtToo}
 use Rattle.run_model.specs.FitsLaws.{made_at, look_of, order_by_places}
 use Rattle.order_laws.proofs.Entries.{shown_kept}
@@ -22,9 +22,10 @@ use Rattle.order_laws.proofs.Entries.{shown_kept}
 abbrev pub Legals : ScriptData → Recorded → Type 0
 Legals s w = (k : ℕ) → IsLegal (opening_at s k) (at k w.codecs)
 
--- the results stay, and each history goes on
+-- the results stay, with what their steps received, and each history goes on
 pub record Grows (w v : Recorded) : Type 0 where
   pub stays : (c j : ℕ) (r : StepResult) → result_in w c j ≡ Some r → result_in v c j ≡ Some r
+  pub received : (c j : ℕ) → j < made_steps w c → v.received c j ≡ w.received c j
   pub more : (k : ℕ) → (more : List Entry) × (at k v.codecs ≡ at k w.codecs ++ more)
 
 -- what the steps on media that were made come to is told as before
@@ -60,9 +61,9 @@ pub record ResultFits (s : ScriptData) (media : List (List Chunk)) (w : Recorded
 abbrev pub taken_as : StepResult → media.Unit → Taken
 taken_as answer u = record { unit = u; answer = answer }
 
--- this chunk and this output are brought to a step
-abbrev pub brought : Option Chunk → Option Taken → Brought
-brought chunk taken = record { chunk = chunk; taken = taken }
+-- this chunk and this output are brought to a step, and this from a port
+abbrev pub brought : Option Chunk → Option Taken → Option Received → Brought
+brought chunk taken received = record { chunk = chunk; taken = taken; received = received }
 
 module _ (s : ScriptData) (w v : Recorded) (g : Grows w v) where
   made_stays : Legals s w → (who : Who) (t o : Option ℕ) (r : StepResult) → ((k p : ℕ) → made_at r ≡ Some (k, p) → p < length (at k w.codecs)) → IsResultBy s w who t o r → IsResultBy s v who t o r
@@ -89,7 +90,7 @@ module _ (s : ScriptData) (w v : Recorded) (g : Grows w v) where
   pub brought_stays : (media : List (List Chunk)) → ((c j : ℕ) (r : StepResult) → result_in w c j ≡ Some r → IsFound s w r) → IsBroughtToo (made_steps w) (brought_to s media w) (brought_to s media v)
   brought_stays media found c j x lt =
       let there = get_some (at c w.callers) j lt in
-      rw (g.stays c j there.0 there.1, there.1, taken_stays there.0 (found c j there.0 there.1)) refl
+      rw (g.stays c j there.0 there.1, there.1, taken_stays there.0 (found c j there.0 there.1), g.received c j lt) refl
 
   -- ---- looks
 

@@ -1,5 +1,7 @@
 pub mod Grown
 pub mod Answers
+pub mod Ports
+pub mod PortMedia
 pub mod Entries
 pub mod Moves
 pub mod Orders

@@ -19,7 +19,7 @@ use Rattle.report_text.specs.declared.result.StepResult.{StepResult}
 use Rattle.run_model.specs.declared.run.CallerTrace.{CallerTrace}
 use Rattle.run_model.specs.declared.run.CodecTrace.{CodecTrace}
 use Rattle.run_model.specs.declared.run.Run.{Run}
-use Rattle.run_model.specs.Recorded.{Recorded, take_entry, steps_of}
+use Rattle.run_model.specs.Recorded.{Recorded, none_received, take_entry, steps_of}
 use Rattle.run_model.specs.Follow.{Course, record_of, Move, Advance, Ask, Receive, result_of, after_move, with_result, with_entry, with_media, order_items, item_move, next_move, step_move, done_entry, end_of, outcome_for, follow_item, Follows, nothing_yet}
 use Rattle.run_model.specs.Fits.{recorded_of, IsLegalTrace, AreLegalTraces, IsLegalRun, FollowsTheOrder}
 use Rattle.order_laws.specs.Same.{is_want, wants_memory, SameWants, SameBoxes}
@@ -182,7 +182,7 @@ traces_same (c ∷ cs) (a ∷ ts) (b ∷ bs) p q h =
 traces_same cs ts bs p q h = absurd search
 
 -- legal runs that recorded the same are one
-recorded_once : (s : ScriptData) (run again : Run) → IsLegalRun s run → IsLegalRun s again → recorded_of run ≡ recorded_of again → run ≡ again
+recorded_once : (s : ScriptData) (run again : Run) → IsLegalRun s run → IsLegalRun s again → recorded_of none_received run ≡ recorded_of none_received again → run ≡ again
 recorded_once s run again p q is =
     let callers = callers_same run.callers again.callers (ap (λ (r : Recorded). r.callers) is) in
     let codecs = traces_same s.codecs run.codecs again.codecs p.codecs q.codecs (ap (λ (r : Recorded). r.codecs) is) in
@@ -191,15 +191,15 @@ recorded_once s run again p q is =
     λ i. record { callers = callers i; codecs = codecs i; pool = pool i; slots = (is i).slots; held = held i }
 
 pub one_run : (s : ScriptData) (media : List (List Chunk)) (made others : List CoderId) (run again : Run) → SameBoxes made others → FollowsTheOrder s media made run → FollowsTheOrder s media others again
-    → IsLegalRun s run → IsLegalRun s again → SameWants (recorded_of run).codecs (recorded_of again).codecs → run ≡ again
+    → IsLegalRun s run → IsLegalRun s again → SameWants (recorded_of none_received run).codecs (recorded_of none_received again).codecs → run ≡ again
 one_run s media made others run again boxes f g p q same =
     let wants : SameWants (histories f.course.codecs) (histories g.course.codecs) = rw (sym (ap (λ (w : Recorded). w.codecs) f.is_recorded), sym (ap (λ (w : Recorded). w.codecs) g.is_recorded)) same in
-    let is = f.is_recorded ∙ (ap record_of (sym (order_same s media others (order_items s) (nothing_yet s made) f.course g.course boxes wants f.follows g.follows)) ∙ sym g.is_recorded) in
+    let is = f.is_recorded ∙ (ap (record_of none_received) (sym (order_same s media others (order_items s) (nothing_yet s made) f.course g.course boxes wants f.follows g.follows)) ∙ sym g.is_recorded) in
     recorded_once s run again p q is
 
-pub one_run_with : (s : ScriptData) (media : List (List Chunk)) (made : List CoderId) (listed : List (ℕ × ℕ)) (run again : Run) → AreListed listed (recorded_of run).codecs → FollowsTheOrder s media made run
-    → recorded_of again ≡ record_of (course_with listed s media (order_items s) (nothing_yet s made)) → IsLegalRun s run → IsLegalRun s again → run ≡ again
+pub one_run_with : (s : ScriptData) (media : List (List Chunk)) (made : List CoderId) (listed : List (ℕ × ℕ)) (run again : Run) → AreListed listed (recorded_of none_received run).codecs → FollowsTheOrder s media made run
+    → recorded_of none_received again ≡ record_of none_received (course_with listed s media (order_items s) (nothing_yet s made)) → IsLegalRun s run → IsLegalRun s again → run ≡ again
 one_run_with s media made listed run again are f with_ends p q =
     let wants : AreListed listed (histories f.course.codecs) = rw (sym (ap (λ (w : Recorded). w.codecs) f.is_recorded)) are in
-    let is = f.is_recorded ∙ (ap record_of (order_listed s media made listed (order_items s) (nothing_yet s made) f.course wants f.follows) ∙ sym with_ends) in
+    let is = f.is_recorded ∙ (ap (record_of none_received) (order_listed s media made listed (order_items s) (nothing_yet s made) f.course wants f.follows) ∙ sym with_ends) in
     recorded_once s run again p q is

@@ -1,16 +1,18 @@
 -- A script in which nothing is at fault has what each of its steps needs.
-use Rattle.std.proofs.Common.{ℕ, zero, suc, ◌≡◌, true, List, [], ◌∷◌, take, Some, ap, sym, subst, ◌∙◌, refl}
+use Rattle.std.proofs.Common.{ℕ, zero, suc, ◌≡◌, ◌<◌, true, List, [], ◌∷◌, length, take, Some, ap, sym, subst, ◌∙◌, refl}
 use Rattle.std.specs.Prelude.{slice_get}
+use Rattle.std.proofs.lemmas.Option.{slice_get_within}
+use Rattle.wc_base.specs.Options.{some_same}
 use Rattle.script_types.specs.declared.script.CallerItem.{CallerItem}
 use Rattle.script_types.specs.declared.script.ScriptData.{ScriptData}
-use Rattle.script_types.specs.declared.steps.Step.{Step}
+use Rattle.script_types.specs.declared.steps.{Step.Step, MediaStep.MediaStep}
 use Rattle.script_types.specs.declared.steps.Variable.{Variable}
 use Rattle.script_types.specs.declared.steps.VariableKind.TheVariants as holds
 use Rattle.script_types.specs.Names.{is_promise, looked_at, IsFlush}
-use Rattle.script_types.specs.Sound.{is_sound, is_sound_step}
-use Rattle.script_types.specs.SoundLaws.{Defines, step_at, named_within, variable_is, promise_kind, promise_there, promise_of_flush}
+use Rattle.script_types.specs.Sound.{is_sound, is_sound_step, is_sound_use}
+use Rattle.script_types.specs.SoundLaws.{Defines, step_at, named_within, variable_is, promise_kind, promise_there, promise_of_flush, use_at, port_there}
 use Rattle.run_model.specs.Recorded.{steps_in, steps_of}
-use Rattle.run_model.specs.Fits.{step_in}
+use Rattle.run_model.specs.Fits.{step_in, port_posted, port_received}
 use Rattle.codec_accounts.specs.ListLaws.{taken_before, get_from_front}
 use Rattle.order_laws.specs.Sound.{IsSound}
 
@@ -50,9 +52,31 @@ promise_made s c j x v h is looks =
     let flush = promise_of_flush s.codecs (take v.step (steps_of s c)) made.definer made.name (sound_step s c v.step made.definer h stands) made.defines in
     (made.definer, stands, subst IsFlush (sym flush.1) tt)
 
+-- ---- ports
+
+-- a step posts and receives at ports that are there
+sound_use : (s : ScriptData) (c j : ℕ) (x : Step) → is_sound s ≡ true → step_in s c j ≡ Some x → is_sound_use s.ports x ≡ true
+sound_use s c j x h is = let there = stands_in s.callers c j x is in use_at s c j there.caller x h there.is_caller there.is_step
+
+post_there : (s : ScriptData) (port : ℕ) (x : Step) → is_sound_use s.ports x ≡ true → port_posted x ≡ Some port → port < length s.ports
+post_there s port (Step.Media (MediaStep.Post to content)) h is =
+    let there = port_there s content.kind to h in
+    subst (λ (n : ℕ). n < length s.ports) (some_same to port is) (slice_get_within s.ports to there.0 there.1)
+post_there s port (Step.Media x) h is = absurd cc
+post_there s port x h is = absurd cc
+
+receive_there : (s : ScriptData) (port : ℕ) (x : Step) → is_sound_use s.ports x ≡ true → port_received x ≡ Some port → port < length s.ports
+receive_there s port (Step.Media (MediaStep.Receive from bind kind)) h is =
+    let there = port_there s kind from h in
+    subst (λ (n : ℕ). n < length s.ports) (some_same from port is) (slice_get_within s.ports from there.0 there.1)
+receive_there s port (Step.Media x) h is = absurd cc
+receive_there s port x h is = absurd cc
+
 pub sound_of : (s : ScriptData) → is_sound s ≡ true → IsSound s
 sound_of s h = record {
   names = λ c j k x is named. named_within s.codecs (take j (steps_of s c)) x k (sound_step s c j x h is) named;
   earlier = λ c j x v is looks. (let made = promise_defined s c j x v h is looks in taken_before (steps_of s c) j v.step made.definer made.stands);
   promised = λ c j x v is looks. promise_made s c j x v h is looks;
+  posts = λ c j port x is at. post_there s port x (sound_use s c j x h is) at;
+  receives = λ c j port x is at. receive_there s port x (sound_use s c j x h is) at;
 }

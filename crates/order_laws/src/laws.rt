@@ -4,7 +4,7 @@ ghost use Rattle.codec_accounts.specs.Owed.{at};
 ghost use Rattle.codec_model.specs.Replay.{IsLegal};
 ghost use Rattle.run_model.specs.Fits.{Fits, FollowsTheOrder, IsLegalRun, recorded_of};
 ghost use Rattle.run_model.specs.Follow.{Course, Follows, nothing_yet, order_items, record_of};
-ghost use Rattle.run_model.specs.Recorded.{opening_at};
+ghost use Rattle.run_model.specs.Recorded.{none_received, opening_at};
 ghost use Rattle.run_model.specs.declared.run.Run.{Run};
 ghost use Rattle.wc_chunk.specs.declared.chunk.Chunk.{Chunk};
 ghost use Rattle.wc_config.specs.declared.codec.CoderId.{CoderId};
@@ -29,7 +29,7 @@ pub fn following_fits()
     ensures legal { (script : ScriptData) (media : List (List Chunk)) (made : List CoderId)
         (run : Run) (k : ℕ)
         → is_sound script ≡ true → FollowsTheOrder script media made run
-        → IsLegal (opening_at script k) (at k (recorded_of run).codecs) }
+        → IsLegal (opening_at script k) (at k (recorded_of none_received run).codecs) }
 {
     media_stand();
     codecs_stand();
@@ -61,7 +61,7 @@ pub fn runs_by_order_are_one()
         → SameBoxes made others → FollowsTheOrder script media made run
         → FollowsTheOrder script media others again → IsLegalRun script run
         → IsLegalRun script again
-        → SameWants (recorded_of run).codecs (recorded_of again).codecs → run ≡ again }
+        → SameWants (recorded_of none_received run).codecs (recorded_of none_received again).codecs → run ≡ again }
 {}
 
 /// A law: where a list has just the ends of a run by order that say that memory was wanted, the order makes that run and
@@ -69,9 +69,9 @@ pub fn runs_by_order_are_one()
 pub fn listed_ends_make_one_run()
     ensures { (script : ScriptData) (media : List (List Chunk)) (made : List CoderId)
         (listed : List (ℕ × ℕ)) (run again : Run)
-        → AreListed listed (recorded_of run).codecs → FollowsTheOrder script media made run
-        → recorded_of again
-        ≡ record_of (course_with listed script media (order_items script)
+        → AreListed listed (recorded_of none_received run).codecs → FollowsTheOrder script media made run
+        → recorded_of none_received again
+        ≡ record_of none_received (course_with listed script media (order_items script)
         (nothing_yet script made))
         → IsLegalRun script run → IsLegalRun script again → run ≡ again }
 {}

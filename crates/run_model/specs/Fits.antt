@@ -1,5 +1,5 @@
 -- When a run is legal, and when it fits its script.
-use Rattle.std.specs.Prelude.{ℕ, ◌≡◌, List, [], ◌∷◌, length, map, take, slice_get, Option, Some, None, option_map, option_and_then, Bool}
+use Rattle.std.specs.Prelude.{ℕ, ◌≡◌, ◌<◌, List, [], ◌∷◌, length, map, take, slice_get, Option, Some, None, option_map, option_and_then, Bool}
 use Rattle.wc_base.specs.declared.error.DomError.{DomError}
 use Rattle.wc_base.specs.declared.who.Who.{Who}
 use Rattle.wc_config.specs.declared.codec.CoderId.{CoderId}
@@ -31,14 +31,14 @@ use Rattle.codec_accounts.specs.Calls.{Mark, Climbs}
 use Rattle.codec_accounts.specs.Calls as mark
 use Rattle.wc_pool.specs.Bag.{held_in}
 use Rattle.wc_pool.specs.declared.entry.PoolOp.{PoolOp}
-use Rattle.media_variables.specs.Variables.{Medium, Came, Taken, Brought, Lendable, lendable_at, handed_of}
+use Rattle.media_variables.specs.Variables.{Medium, Came, Taken, Received, Brought, posted_by, Lendable, lendable_at, handed_of}
 use Rattle.media_accounts.specs.Accounts.{came_in, variables_in, lent_at, MediaAreIn}
-use Rattle.run_model.specs.Recorded.{Recorded, opening_of, opening_at, steps_of, chunk_for, copied_chunk, output_at, source_error, promise_after, take_entry}
+use Rattle.run_model.specs.Recorded.{Recorded, none_received, opening_of, opening_at, steps_of, chunk_for, copied_chunk, output_at, source_error, promise_after, take_entry}
 use Rattle.run_model.specs.Follow.{Course, record_of, order_items, Follows, nothing_yet}
 
--- what a run recorded, without what its entries showed
-abbrev pub recorded_of : Run → Recorded
-recorded_of run = record { callers = map (λ c. c.results) run.callers; codecs = map (λ c. c.entries) run.codecs; pool = run.pool; slots = run.slots }
+-- what a run recorded, without what its entries showed, where its steps received this
+abbrev pub recorded_of : (ℕ → ℕ → Option Received) → Run → Recorded
+recorded_of received run = record { callers = map (λ c. c.results) run.callers; codecs = map (λ c. c.entries) run.codecs; pool = run.pool; slots = run.slots; received = received }
 
 -- the result of a caller's step, if it was made
 abbrev pub result_in : Recorded → ℕ → ℕ → Option StepResult
@@ -73,6 +73,8 @@ mark_of (result.Copied n bytes) = mark.Local
 mark_of (result.CopiedFrame n layouts bytes) = mark.Local
 mark_of (result.Size n) = mark.Local
 mark_of result.Absent = mark.Local
+mark_of (result.From who) = mark.Local
+mark_of result.Nothing = mark.Local
 
 -- what the results of all callers say
 abbrev pub marks_of : Recorded → List (List Mark)
@@ -84,6 +86,20 @@ abbrev pub IsCallResult : ScriptData → Recorded → ℕ → StepResult → Typ
 IsCallResult s w k (result.Call other p error) = (other ≡ k) × (error ≡ exception_at (opening_at s k) (at k w.codecs) p)
 IsCallResult s w k result.Absent = Unit {0}
 IsCallResult s w k _ = ⊥
+
+-- the port that a step receives from, and the one that it posts to
+abbrev pub port_received : Step → Option ℕ
+port_received (step.Media (on_media.Receive from bind kind)) = Some from
+port_received _ = None
+
+abbrev pub port_posted : Step → Option ℕ
+port_posted (step.Media (on_media.Post to content)) = Some to
+port_posted _ = None
+
+-- what a step posts after these variables of its caller
+abbrev pub medium_posted : Step → List (Option Medium) → Option Medium
+medium_posted (step.Media x) vs = posted_by x vs
+medium_posted _ vs = None
 
 -- a step calls a codec by a call result, and no other step has one
 abbrev pub IsAnswerOf : ScriptData → Recorded → Option ℕ → StepResult → Type 0
@@ -115,8 +131,8 @@ pub record CallsAreIn (s : ScriptData) (w : Recorded) : Type 0 where
   -- the entries that name a caller's step are those of the calls in the results
   pub once : (k : ℕ) → mark.CallsAreIn k (at k w.codecs) (marks_of w)
 
-abbrev pub CallsStandOnce : ScriptData → Run → Type 0
-CallsStandOnce s run = CallsAreIn s (recorded_of run)
+abbrev pub CallsStandOnce : ScriptData → (ℕ → ℕ → Option Received) → Run → Type 0
+CallsStandOnce s received run = CallsAreIn s (recorded_of received run)
 
 -- what a look shows is read from the history up to it
 abbrev pub LookShows : ScriptData → Recorded → ℕ → Step → StepResult → Type 0
@@ -142,8 +158,8 @@ pub record LooksAreIn (s : ScriptData) (w : Recorded) : Type 0 where
   pub climbs : MarksClimb w
   pub shows : (c j : ℕ) (x : Step) (r : StepResult) → step_in s c j ≡ Some x → result_in w c j ≡ Some r → LookShows s w c x r
 
-abbrev pub LooksAreBetween : ScriptData → Run → Type 0
-LooksAreBetween s run = LooksAreIn s (recorded_of run)
+abbrev pub LooksAreBetween : ScriptData → (ℕ → ℕ → Option Received) → Run → Type 0
+LooksAreBetween s received run = LooksAreIn s (recorded_of received run)
 
 -- the output that a caller's step took, by its result, if it took one
 abbrev pub taken_by : ScriptData → Recorded → Option StepResult → Option Taken
@@ -151,10 +167,15 @@ taken_by s w (Some (result.Unit k p n)) =
     option_map (λ u. record { unit = u; answer = result.Unit k p n }) (output_at (opening_at s k) (at k w.codecs) n)
 taken_by s w _ = None
 
--- what is given from elsewhere to a caller's step on media: the chunk that it copies, if that was made or is of a chunk file, and the
--- output that it takes
+-- what a step receives from a port, if it is one that does
+abbrev pub received_by : MediaStep → Option Received → Option Received
+received_by (on_media.Receive from bind kind) p = p
+received_by _ p = None
+
+-- what is given from elsewhere to a caller's step on media: the chunk that it copies, if that was made or is of a chunk file, the
+-- output that it takes, and what it receives
 abbrev pub brought_to : ScriptData → List (List Chunk) → Recorded → ℕ → ℕ → MediaStep → Brought
-brought_to s media w c j x = record { chunk = copied_chunk media (steps_of s c) x; taken = taken_by s w (result_in w c j) }
+brought_to s media w c j x = record { chunk = copied_chunk media (steps_of s c) x; taken = taken_by s w (result_in w c j); received = received_by x (w.received c j) }
 
 -- the variables of a caller's media before its step with this number
 abbrev pub variables_at : ScriptData → List (List Chunk) → Recorded → ℕ → ℕ → List (Option Medium)
@@ -180,8 +201,8 @@ ArgumentsAreIn s media w = (k p : ℕ) (who : Who) (x : Call) → entry_in w k p
     (y : Step) × (step_in s who.caller who.step ≡ Some y) × HasArguments s media (variables_at s media w who.caller who.step) who.caller x y
 
 -- The config, chunk, medium or ground of a call are what the script, its chunk files and the caller's earlier steps give.
-abbrev pub ArgumentsAreTheScripts : ScriptData → List (List Chunk) → Run → Type 0
-ArgumentsAreTheScripts s media run = ArgumentsAreIn s media (recorded_of run)
+abbrev pub ArgumentsAreTheScripts : ScriptData → List (List Chunk) → (ℕ → ℕ → Option Received) → Run → Type 0
+ArgumentsAreTheScripts s media received run = ArgumentsAreIn s media (recorded_of received run)
 
 -- how many steps a caller made
 abbrev pub made_steps : Recorded → ℕ → ℕ
@@ -218,6 +239,8 @@ IsLocalAnswer s media vs came c x (result.Local error) = ⊥
 IsLocalAnswer s media vs came c x (result.Copied n bytes) = ⊥
 IsLocalAnswer s media vs came c x (result.CopiedFrame n layouts bytes) = ⊥
 IsLocalAnswer s media vs came c x (result.Size n) = ⊥
+IsLocalAnswer s media vs came c x (result.From who) = ⊥
+IsLocalAnswer s media vs came c x result.Nothing = ⊥
 IsLocalAnswer s media vs came c x r = Unit {0}
 
 abbrev pub LocalsAreIn : ScriptData → List (List Chunk) → Recorded → Type 0
@@ -225,13 +248,13 @@ LocalsAreIn s media w = (c j : ℕ) (x : Step) (r : StepResult) → step_in s c 
     IsLocalAnswer s media (variables_at s media w c j) (came_at s media w c j) c x r
 
 -- Every other step has the answer of its own rule.
-abbrev pub LocalStepsAnswer : ScriptData → List (List Chunk) → Run → Type 0
-LocalStepsAnswer s media run = LocalsAreIn s media (recorded_of run)
+abbrev pub LocalStepsAnswer : ScriptData → List (List Chunk) → (ℕ → ℕ → Option Received) → Run → Type 0
+LocalStepsAnswer s media received run = LocalsAreIn s media (recorded_of received run)
 
 -- Each box that went out was asked for, and went back by the entry that let it go. `made` has the ids of the coders that
 -- were handed in.
-abbrev pub BoxesAreAccounted : ScriptData → List CoderId → Run → Type 0
-BoxesAreAccounted s made run = let w = recorded_of run in BoxesAccounted made (opening_at s) w.codecs w.slots
+abbrev pub BoxesAreAccounted : ScriptData → List CoderId → (ℕ → ℕ → Option Received) → Run → Type 0
+BoxesAreAccounted s made received run = let w = recorded_of received run in BoxesAccounted made (opening_at s) w.codecs w.slots
 
 -- what the entries of codecs call for in the pool's history
 abbrev pub lends_in : ScriptData → Recorded → ℕ → ℕ → List PoolOp
@@ -239,18 +262,61 @@ lends_in s w k place = lent_at (opening_at s k) (at k w.codecs) place
 
 -- The pool's history has what the callers' steps and the codecs' entries call for, each once and in the order of their caller,
 -- and nothing else.
-abbrev pub MediaAreAccounted : ScriptData → List (List Chunk) → Run → Type 0
-MediaAreAccounted s media run = let w = recorded_of run in MediaAreIn (steps_of s) (brought_to s media w) (lends_in s w) (made_steps w) w.pool
+abbrev pub MediaAreAccounted : ScriptData → List (List Chunk) → (ℕ → ℕ → Option Received) → Run → Type 0
+MediaAreAccounted s media received run = let w = recorded_of received run in MediaAreIn (steps_of s) (brought_to s media w) (lends_in s w) (made_steps w) w.pool
+
+-- ---- ports
+
+-- the port that a caller's step receives from, and the one that it posts to
+abbrev pub received_from : ScriptData → ℕ → ℕ → Option ℕ
+received_from s c j = option_and_then port_received (step_in s c j)
+
+abbrev pub posted_to : ScriptData → ℕ → ℕ → Option ℕ
+posted_to s c j = option_and_then port_posted (step_in s c j)
+
+-- what a caller's step posts, after these variables
+abbrev pub medium_of : ScriptData → ℕ → ℕ → List (Option Medium) → Option Medium
+medium_of s c j vs = option_and_then (λ x. medium_posted x vs) (step_in s c j)
+
+-- a step received this from the port with this number
+abbrev pub Gets : ScriptData → Recorded → ℕ → ℕ → ℕ → Received → Type 0
+Gets s w port c j p = (w.received c j ≡ Some p) × (received_from s c j ≡ Some port)
+
+-- a step posted something into the port with this number
+abbrev pub Posts : ScriptData → Recorded → ℕ → ℕ → ℕ → Type 0
+Posts s w port c j = (result_in w c j ≡ Some (result.Local None)) × (posted_to s c j ≡ Some port)
+
+-- this was posted into the port with this number, by the step that it names
+abbrev pub IsPosted : ScriptData → List (List Chunk) → Recorded → ℕ → Received → Type 0
+IsPosted s media w port p = Posts s w port p.poster.caller p.poster.step
+    × (medium_of s p.poster.caller p.poster.step (variables_at s media w p.poster.caller p.poster.step) ≡ Some p.medium)
+
+-- what this step posted into the port was received by some step
+abbrev pub WasGot : ScriptData → Recorded → ℕ → ℕ → ℕ → Type 0
+WasGot s w port c j = (d : ℕ) × ((k : ℕ) × ((q : Received) × (Gets s w port d k q × (q.poster ≡ record { caller = c; step = j }))))
+
+-- What receives got (our choice: ports of callers): the media of posts into the same port, each once; of each caller's posts into a
+-- port the first ones; and one caller's posts to one receiver in their order. A receive that got nothing came where every earlier post
+-- of its own caller into the port had been received. Nothing is said of when a post is received.
+pub record PortsDeliver (s : ScriptData) (media : List (List Chunk)) (w : Recorded) : Type 0 where
+  pub gave : (port c j : ℕ) (p : Received) → Gets s w port c j p → IsPosted s media w port p
+  pub once : (c j d i : ℕ) (p q : Received) → w.received c j ≡ Some p → w.received d i ≡ Some q → p.poster ≡ q.poster → (c ≡ d) × (j ≡ i)
+  pub first : (port c j i : ℕ) (p : Received) → Gets s w port c j p → i < p.poster.step → Posts s w port p.poster.caller i → WasGot s w port p.poster.caller i
+  pub rise : (port c j i : ℕ) (p q : Received) → j < i → Gets s w port c j p → Gets s w port c i q → p.poster.caller ≡ q.poster.caller → p.poster.step < q.poster.step
+  pub none : (port c j i : ℕ) → result_in w c j ≡ Some result.Nothing → received_from s c j ≡ Some port → i < j → Posts s w port c i → WasGot s w port c i
 
 -- `media` has the chunks of each of the script's chunk files. Nothing is said of when each entry was made: a run of threads may
 -- fit as a replay does.
 pub record Fits (s : ScriptData) (media : List (List Chunk)) (made : List CoderId) (run : Run) : Type 0 where
-  pub calls : CallsStandOnce s run
-  pub looks : LooksAreBetween s run
-  pub arguments : ArgumentsAreTheScripts s media run
-  pub locals : LocalStepsAnswer s media run
-  pub accounted : MediaAreAccounted s media run
-  pub boxes : BoxesAreAccounted s made run
+  -- what the steps of callers received
+  pub received : ℕ → ℕ → Option Received
+  pub calls : CallsStandOnce s received run
+  pub looks : LooksAreBetween s received run
+  pub arguments : ArgumentsAreTheScripts s media received run
+  pub locals : LocalStepsAnswer s media received run
+  pub accounted : MediaAreAccounted s media received run
+  pub boxes : BoxesAreAccounted s made received run
+  pub ports : PortsDeliver s media (recorded_of received run)
 
 -- All entries, results, pool entries and slot entries are those that following the script's order makes, item after item: so it is of a
 -- replay. `made` has the ids of the coders that were handed in.
@@ -258,7 +324,7 @@ pub record FollowsTheOrder (s : ScriptData) (media : List (List Chunk)) (made : 
   -- how the callers, the codecs, the media and the registry stand in the end
   pub course : Course
   pub follows : Follows s media (order_items s) (nothing_yet s made) course
-  pub is_recorded : recorded_of run ≡ record_of course
+  pub is_recorded : recorded_of none_received run ≡ record_of none_received course
 
 -- a replay fits its script and follows its order
 pub record FitsInOrder (s : ScriptData) (media : List (List Chunk)) (made : List CoderId) (run : Run) : Type 0 where

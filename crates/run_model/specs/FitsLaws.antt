@@ -100,6 +100,8 @@ made_mark (result.Copied n bytes) k p is = absurd cc
 made_mark (result.CopiedFrame n layouts bytes) k p is = absurd cc
 made_mark (result.Size n) k p is = absurd cc
 made_mark result.Absent k p is = absurd cc
+made_mark (result.From who) k p is = absurd cc
+made_mark result.Nothing k p is = absurd cc
 
 call_there : (o : Option StepResult) (k p : ℕ) → option_map mark_of o ≡ Some (mark.Call k p) → (r : StepResult) × (o ≡ Some r) × (made_at r ≡ Some (k, p))
 call_there None k p is = absurd cc
@@ -153,6 +155,8 @@ reach_made (result.Copied m bytes) k p is = absurd cc
 reach_made (result.CopiedFrame m layouts bytes) k p is = absurd cc
 reach_made (result.Size m) k p is = absurd cc
 reach_made result.Absent k p is = absurd cc
+reach_made (result.From who) k p is = absurd cc
+reach_made result.Nothing k p is = absurd cc
 
 reach_look : (r : StepResult) (k n : ℕ) → look_of r ≡ Some (k, n) → reach k (mark_of r) ≡ Some (n, n)
 reach_look (result.Look m q end) k n is = look_reach m q k n is
@@ -165,6 +169,8 @@ reach_look (result.Copied m bytes) k n is = absurd cc
 reach_look (result.CopiedFrame m layouts bytes) k n is = absurd cc
 reach_look (result.Size m) k n is = absurd cc
 reach_look result.Absent k n is = absurd cc
+reach_look (result.From who) k n is = absurd cc
+reach_look result.Nothing k n is = absurd cc
 
 -- Marks that climb are in order by their places.
 pub order_by_places : (w : Recorded) → MarksClimb w → OrderByPlaces w

@@ -1,6 +1,6 @@
 -- What a script's order makes, item after item (our choice: the order of a script is the interleaving of its callers, of the
 -- work items and of the event tasks).
-use Rattle.std.specs.Prelude.{ℕ, ◌≡◌, Bool, true, false, List, [], ◌∷◌, length, map, slice_get, Option, Some, None, option_map, unwrap_or, if◌then◌else◌}
+use Rattle.std.specs.Prelude.{ℕ, ◌≡◌, ◌==◌, ◌&&◌, Bool, true, false, List, [], ◌∷◌, length, map, drop, slice_get, slice_set, Option, Some, None, option_map, unwrap_or, if◌then◌else◌}
 use Rattle.wc_base.specs.declared.who.Who.{Who}
 use Rattle.wc_config.specs.declared.codec.CoderId.{CoderId}
 use Rattle.wc_chunk.specs.declared.chunk.Chunk.{Chunk}
@@ -30,26 +30,29 @@ use Rattle.report_text.specs.declared.result.StepResult.{StepResult}
 use Rattle.report_text.specs.declared.result.StepResult.TheVariants as result
 use Rattle.wc_pool.specs.declared.entry.PoolEntry.{PoolEntry}
 use Rattle.wc_pool.specs.Bag.{references_made}
-use Rattle.media_variables.specs.Variables.{Media, Came, Taken, Brought, Lendable, lendable_at, handed_of, next_numbers, media_came, after_came, variables_of}
+use Rattle.media_variables.specs.Variables.{Medium, Media, Came, Taken, Received, Brought, posted_by, Lendable, lendable_at, handed_of, next_numbers, media_came, after_came, variables_of}
 use Rattle.media_accounts.specs.Accounts.{after_entry_of}
 use Rattle.run_model.specs.Recorded.{Recorded, chunk_for, copied_chunk, opening_of, output_at, promise_after, source_error, steps_of, take_entry}
 
--- how far an order was followed: each caller's results, each codec, the callers' media with their pool, and the registry
+-- how far an order was followed: each caller's results, each codec, the callers' media with their pool, the registry, and what waits in
+-- each port, the oldest first
 pub record Course : Type 0 where
   pub callers : List (List StepResult)
   pub codecs : List CodecValue
   pub media : Media
   pub slots : SlotsValue
+  pub ports : List (List Received)
 
--- what it recorded
-abbrev pub record_of : Course → Recorded
-record_of v = record { callers = v.callers; codecs = histories v.codecs; pool = v.media.pool; slots = v.slots.history }
+-- what it recorded, where steps received this
+abbrev pub record_of : (ℕ → ℕ → Option Received) → Course → Recorded
+record_of received v = record { callers = v.callers; codecs = histories v.codecs; pool = v.media.pool; slots = v.slots.history; received = received }
 
 -- ---- moves
 
 -- What an item of the order, or the step of a caller, makes: nothing; a result of a caller alone, as that of a look; the
--- next entry of a codec; both, where a caller's step calls a codec; what a step on media comes to; or that beside the next
--- entry of a codec, of which the step takes the output with this number.
+-- next entry of a codec; both, where a caller's step calls a codec; what a step on media comes to; that beside the next
+-- entry of a codec, of which the step takes the output with this number; or that beside a medium which goes into a port, or
+-- beside the oldest that waits in one.
 pub data Move : Type 0 where
   Idle : Move
   Answer : ℕ → StepResult → Move
@@ -57,6 +60,8 @@ pub data Move : Type 0 where
   Ask : Who → ℕ → Call → Move
   Handle : Who → Came → Move
   Receive : Who → ℕ → ℕ → Came → Move
+  Post : Who → ℕ → Option Medium → Came → Move
+  Get : Who → ℕ → Came → Move
 
 -- one result more of the caller with this number
 abbrev pub with_result : ℕ → StepResult → Course → Course
@@ -82,6 +87,26 @@ with_media who y v = record v { media = after_came who y v.media }
 abbrev pub result_of : ℕ → Call → CodecValue → StepResult
 result_of k x d = result.Call k (length d.history) (exception_of x (call_error x (state_of d).control))
 
+-- a medium goes into the port with this number, behind those that wait there
+abbrev pub posted_as : Who → ℕ → Option Medium → List (List Received) → List (List Received)
+posted_as who port None ports = ports
+posted_as who port (Some m) ports = append_at port (record { poster = who; medium = m }) ports
+
+abbrev pub with_posted : Who → ℕ → Option Medium → Course → Course
+with_posted who port m v = record v { ports = posted_as who port m v.ports }
+
+-- the oldest that waits in a port, if one does
+abbrev pub front_of : List Received → Option Received
+front_of [] = None
+front_of (p ∷ ps) = Some p
+
+abbrev pub waiting_at : ℕ → Course → Option Received
+waiting_at port v = front_of (at port v.ports)
+
+-- it goes out
+abbrev pub without_front : ℕ → Course → Course
+without_front port v = record v { ports = slice_set v.ports port (drop 1 (at port v.ports)) }
+
 abbrev pub after_move : Move → Course → Course
 after_move Idle v = v
 after_move (Answer c r) v = with_result c r v
@@ -89,6 +114,8 @@ after_move (Advance k e) v = with_entry k e v
 after_move (Ask who k x) v = with_result who.caller (result_of k x (codec_at k v.codecs)) (with_entry k (entry.Call who x) v)
 after_move (Handle who y) v = with_result who.caller y.answer (with_media who y v)
 after_move (Receive who k n y) v = with_result who.caller y.answer (with_media who y (with_entry k (take_entry who n) v))
+after_move (Post who port m y) v = with_result who.caller y.answer (with_media who y (with_posted who port m v))
+after_move (Get who port y) v = with_result who.caller y.answer (with_media who y (without_front port v))
 
 -- ---- the next entry of one codec
 
@@ -173,14 +200,30 @@ abbrev pub take_move : Who → ℕ → CodecValue → Option Came → Move
 take_move who k d None = Answer who.caller (result.NoUnit k (length d.history))
 take_move who k d (Some y) = Receive who k (state_of d).control.taken y
 
+-- a post, and a receive, by what each comes to
+abbrev pub post_move : Who → ℕ → Option Medium → Option Came → Move
+post_move who port m None = Idle
+post_move who port m (Some y) = Post who port m y
+
+abbrev pub get_move : Who → ℕ → Option Came → Move
+get_move who port None = Idle
+get_move who port (Some y) = Get who port y
+
 abbrev pub media_move : ScriptData → List (List Chunk) → Who → MediaStep → Course → Move
 media_move s media who (on_media.Take on bind kind) v =
-    let b : Brought = record { chunk = None; taken = found_at on (codec_at on v.codecs) } in
+    let b : Brought = record { chunk = None; taken = found_at on (codec_at on v.codecs); received = None } in
     take_move who on (codec_at on v.codecs) (media_came (next_numbers v.media.pool) who b (on_media.Take on bind kind) (variables_of who.caller v.media.variables))
 media_move s media who (on_media.Encode on content) v =
     call_move who on (option_map (encode_of v.media.pool (codec_at on v.codecs)) (lendable_at (variables_of who.caller v.media.variables) content.step))
+media_move s media who (on_media.Post to content) v =
+    let b : Brought = record { chunk = None; taken = None; received = None } in
+    let vs = variables_of who.caller v.media.variables in
+    post_move who to (posted_by (on_media.Post to content) vs) (media_came (next_numbers v.media.pool) who b (on_media.Post to content) vs)
+media_move s media who (on_media.Receive from bind kind) v =
+    let b : Brought = record { chunk = None; taken = None; received = waiting_at from v } in
+    get_move who from (media_came (next_numbers v.media.pool) who b (on_media.Receive from bind kind) (variables_of who.caller v.media.variables))
 media_move s media who x v =
-    let b : Brought = record { chunk = copied_chunk media (steps_of s who.caller) x; taken = None } in
+    let b : Brought = record { chunk = copied_chunk media (steps_of s who.caller) x; taken = None; received = None } in
     handle_move who (media_came (next_numbers v.media.pool) who b x (variables_of who.caller v.media.variables))
 
 -- the step of a caller
@@ -214,6 +257,11 @@ item_move s media wants (item.Done k moment) v = advance k (item_entry wants (it
 item_move s media wants (item.Turn k) v = advance k (item_entry wants (item.Turn k) (codec_at k v.codecs))
 item_move s media wants (item.Reclaim k moment) v = advance k (item_entry wants (item.Reclaim k moment) (codec_at k v.codecs))
 
+-- what steps have received after a move
+abbrev pub received_after : Move → Course → (ℕ → ℕ → Option Received) → ℕ → ℕ → Option Received
+received_after (Get who port y) v received c j = if (c == who.caller) && (j == who.step) then waiting_at port v else received c j
+received_after move v received c j = received c j
+
 abbrev pub follow_item : ScriptData → List (List Chunk) → Bool → OrderItem → Course → Course
 follow_item s media wants x v = after_move (item_move s media wants x v) v
 
@@ -226,12 +274,13 @@ Follows s media (x ∷ xs) v u = (wants : Bool) × Follows s media xs (follow_it
 abbrev pub order_items : ScriptData → List OrderItem
 order_items s = unwrap_or s.order []
 
--- Nothing is recorded yet, no caller has media, and no codec has anything of the registry, which was opened with coders of
--- these ids.
+-- Nothing is recorded yet, no caller has media, nothing waits in a port, and no codec has anything of the registry, which was
+-- opened with coders of these ids.
 abbrev pub nothing_yet : ScriptData → List CoderId → Course
 nothing_yet s made = record {
   callers = map (λ c. []) s.callers;
   codecs = map (λ c. new_codec (opening_of c)) s.codecs;
   media = record { variables = map (λ c. []) s.callers; pool = [] };
   slots = record { made = made; history = [] };
+  ports = map (λ p. []) s.ports;
 }

@@ -25,14 +25,20 @@ use Rattle.script_types.specs.declared.steps.MediaStep.{MediaStep}
 use Rattle.script_types.specs.declared.steps.Step.TheVariants as step
 use Rattle.report_text.specs.declared.result.StepResult.{StepResult}
 use Rattle.wc_pool.specs.declared.entry.PoolEntry.{PoolEntry}
-use Rattle.media_variables.specs.Variables.{Medium, chunk_in, chunk_of_variable}
+use Rattle.media_variables.specs.Variables.{Medium, Received, chunk_in, chunk_of_variable}
 
--- What was recorded so far: each caller's results, each codec's history, the pool's of media, and the registry's.
+-- What was recorded so far: each caller's results, each codec's history, the pool's of media, and the registry's. What the steps of
+-- callers received from ports, by caller and step, no report shows but for the posts that it names.
 pub record Recorded : Type 0 where
   pub callers : List (List StepResult)
   pub codecs : List (List Entry)
   pub pool : List PoolEntry
   pub slots : List SlotEntry
+  pub received : ℕ → ℕ → Option Received
+
+-- nothing was received
+abbrev pub none_received : ℕ → ℕ → Option Received
+none_received c j = None
 
 abbrev pub opening_of : CodecItem → Opening
 opening_of c = record { kind = c.kind; saturation = c.saturation }
