@@ -17,10 +17,10 @@ use Rattle.run_model.specs.Follow.{Course, Ask, after_move, encode_of, result_of
 pub asked : (v : Course) (who : Who) (k place : ℕ) (x : Call) (error : Option DomError) (callers : List (List StepResult)) (codecs : List CodecValue) (m : Media) (slots : SlotsValue)
     → codecs ≡ codecs_after k (Entry.Call who x) v.slots v.codecs → slots ≡ slots_by k (Entry.Call who x) v.slots (codec_at k v.codecs) → m ≡ media_by k (Entry.Call who x) (codec_at k v.codecs) v.media
     → place ≡ length (codec_at k v.codecs).history → error ≡ exception_of x (call_error x (state_of (codec_at k v.codecs)).control) → callers ≡ append_at who.caller (StepResult.Call k place error) v.callers
-    → ◌≡◌ {A = Course} (record { callers = callers; codecs = codecs; media = m; slots = slots }) (after_move (Ask who k x) v)
+    → ◌≡◌ {A = Course} (record { callers = callers; codecs = codecs; media = m; slots = slots; ports = v.ports }) (after_move (Ask who k x) v)
 asked v who k place x error callers codecs m slots made went left at shown noted =
     let told : callers ≡ append_at who.caller (result_of k x (codec_at k v.codecs)) v.callers = rw (noted, at, shown) refl in
-    λ i. record { callers = told i; codecs = made i; media = left i; slots = went i }
+    λ i. record { callers = told i; codecs = made i; media = left i; slots = went i; ports = v.ports }
 
 -- ---- what is handed
 

@@ -1,15 +1,18 @@
 -- What codecs' entries make of the callers' media.
-use Rattle.std.proofs.Common.{ℕ, zero, suc, ◌+◌, ◌≡◌, Bool, true, false, List, [], ◌∷◌, ◌++◌, length, Option, Some, refl, ap, ◌∙◌, append-nil, arith}
+use Rattle.std.proofs.Common.{ℕ, zero, suc, ◌+◌, ◌≡◌, ◌<◌, Bool, true, false, List, [], ◌∷◌, ◌++◌, length, Option, Some, refl, ap, ◌∙◌, append-nil, arith}
 use Rattle.std.specs.Prelude.{slice_get, unwrap_or}
+use Rattle.std.proofs.lemmas.Bool.{lt-ltb}
 use Rattle.codec_model.specs.{Control.Control, Control.turn_closes, declared.entry.Entry.Entry, declared.entry.Pair.Pair, declared.entry.Task.Task, declared.entry.Call.Call}
 use Rattle.wc_base.specs.declared.{who.By.By, who.Who.Who}
 use Rattle.wc_pool.specs.declared.entry.PoolEntry.{PoolEntry}
 use Rattle.codec_model.specs.Replay.{State}
 use Rattle.codec_model.specs.Held.{held_in, running_pairs, waiting_held, adds_held, lets_go, closes_codec, is_removal}
 use Rattle.codec_core.specs.Codec.{closes_now}
-use Rattle.codec_accounts.specs.{Codec.CodecValue, Codec.state_of, ListLaws.get_kept}
+use Rattle.codec_accounts.specs.{Codec.CodecValue, Codec.state_of, Codec.codec_at, ListLaws.get_kept}
 use Rattle.media_variables.specs.{Variables.Medium, Variables.Media, Held.AreApart}
-use Rattle.run_model.specs.Follow.{media_by}
+use Rattle.media_accounts.specs.Accounts.{AreLent}
+use Rattle.run_model.specs.Follow.{Course, media_by}
+use Rattle.order_laws.specs.Course.{held_by_all}
 use Rattle.wc_replay.specs.Desk.{media_without, waiting_if}
 
 -- an entry that calls for nothing leaves the callers' media
@@ -36,7 +39,7 @@ get_behind (x ∷ xs) ys i zero h = absurd (omega (arith, h))
 get_behind (x ∷ xs) ys i (suc n) h = get_behind xs ys i n (omega (arith, h))
 
 -- the references of a part, each of which stands somewhere in the whole
-apart_part : (pool : List PoolEntry) (callers : List (List (Option Medium))) (whole part : List Pair) (at : ℕ → ℕ) → ((i j : ℕ) → at i ≡ at j → i ≡ j) → ((i : ℕ) (p : Pair) → slice_get part i ≡ Some p → slice_get whole (at i) ≡ Some p) → AreApart pool callers whole → AreApart pool callers part
+pub apart_part : (pool : List PoolEntry) (callers : List (List (Option Medium))) (whole part : List Pair) (at : ℕ → ℕ) → ((i j : ℕ) → at i ≡ at j → i ≡ j) → ((i : ℕ) (p : Pair) → slice_get part i ≡ Some p → slice_get whole (at i) ≡ Some p) → AreApart pool callers whole → AreApart pool callers part
 apart_part pool callers whole part at once is h = record {
   lives = λ i p here. h.lives (at i) p (is i p here);
   once = λ i j p q here there same. once i j (h.once (at i) (at j) p q (is i p here) (is j q there) same);
@@ -59,6 +62,10 @@ apart_waiting m v d false ps same is h = rw is (apart_part m.pool m.variables (h
 -- what a call lets go is what waits, where it removes
 pub apart_gone : (m : Media) (d : CodecValue) (who : Who) (x : Call) → AreApart m.pool m.variables (held_in (state_of d)) → AreApart m.pool m.variables (lets_go (Entry.Call who x) (state_of d))
 apart_gone m d who x h = apart_waiting m d d (is_removal (Entry.Call who x) (state_of d)) (lets_go (Entry.Call who x) (state_of d)) refl refl h
+
+-- the references of a codec are what the holder with its number holds
+pub codec_apart : (v : Course) (k : ℕ) → k < length v.codecs → AreLent v.media.pool v.media.variables (held_by_all v) → AreApart v.media.pool v.media.variables (held_in (state_of (codec_at k v.codecs)))
+codec_apart v k lt lent = rw (lt-ltb k (length v.codecs) lt) at (lent.apart k)
 
 pub apart_none : (m : Media) → AreApart m.pool m.variables []
 apart_none m = record { lives = λ i p here. absurd cc; once = λ i j p q here there same. absurd cc; elsewhere = λ i k j p r here held. absurd cc }

@@ -6,3 +6,4 @@ pub mod Orders
 pub mod Playable
 pub mod Runs
 pub mod Takes
+pub mod PortMoves

@@ -27,6 +27,6 @@ set_same (d ∷ ds) (suc k) = ap (λ (l : List CodecValue). d ∷ l) (set_same d
 
 -- an entry of one codec, or none, is the move that it makes
 pub advance_is : (v : Course) (k : ℕ) (o : Option Entry) (codecs : List CodecValue) (m : Media) (slots : SlotsValue) → codecs ≡ slice_set v.codecs k (codec_by k o v.slots (codec_at k v.codecs)) → slots ≡ registry_by k o v.slots (codec_at k v.codecs)
-    → m ≡ media_by_option k o (codec_at k v.codecs) v.media → ◌≡◌ {A = Course} (record { callers = v.callers; codecs = codecs; media = m; slots = slots }) (after_move (advance k o) v)
-advance_is v k None codecs m slots is went left = λ i. record { callers = v.callers; codecs = (is ∙ set_same v.codecs k) i; media = left i; slots = went i }
-advance_is v k (Some e) codecs m slots is went left = λ i. record { callers = v.callers; codecs = is i; media = left i; slots = went i }
+    → m ≡ media_by_option k o (codec_at k v.codecs) v.media → ◌≡◌ {A = Course} (record { callers = v.callers; codecs = codecs; media = m; slots = slots; ports = v.ports }) (after_move (advance k o) v)
+advance_is v k None codecs m slots is went left = λ i. record { callers = v.callers; codecs = (is ∙ set_same v.codecs k) i; media = left i; slots = went i; ports = v.ports }
+advance_is v k (Some e) codecs m slots is went left = λ i. record { callers = v.callers; codecs = is i; media = left i; slots = went i; ports = v.ports }

@@ -10,7 +10,7 @@ use Rattle.script_types.specs.declared.script.{ScriptData.ScriptData, CodecItem.
 use Rattle.run_model.specs.declared.run.Run.{Run}
 use Rattle.run_model.specs.declared.run.CodecTrace.{CodecTrace}
 use Rattle.run_model.specs.declared.run.CallerTrace.{CallerTrace}
-use Rattle.run_model.specs.Recorded.{opening_in}
+use Rattle.run_model.specs.Recorded.{none_received, opening_in}
 use Rattle.codec_accounts.specs.Codec.{CodecValue, codec_at, histories}
 use Rattle.run_model.specs.Fits.{FollowsTheOrder, AreLegalTraces, IsLegalRun, recorded_of}
 use Rattle.run_model.specs.Follow.{Course, record_of}
@@ -18,11 +18,11 @@ use Rattle.order_laws.specs.Course.{IsCourse}
 use Rattle.wc_replay.specs.Player.{IsPlayed, IsRunOf, trace_of, caller_trace}
 
 -- what a run recorded is what its course made
-pub played_recorded : (course : Course) (run : Run) → IsRunOf course run → recorded_of run ≡ record_of course
+pub played_recorded : (course : Course) (run : Run) → IsRunOf course run → recorded_of none_received run ≡ record_of none_received course
 played_recorded course run is =
     let callers : map (λ (c : CallerTrace). c.results) run.callers ≡ course.callers = ap (map (λ (c : CallerTrace). c.results)) is.callers ∙ (map-map (λ (c : CallerTrace). c.results) caller_trace course.callers ∙ map-id course.callers) in
     let codecs : map (λ (t : CodecTrace). t.entries) run.codecs ≡ histories course.codecs = ap (map (λ (t : CodecTrace). t.entries)) is.codecs ∙ map-map (λ (t : CodecTrace). t.entries) trace_of course.codecs in
-    λ i. record { callers = callers i; codecs = codecs i; pool = is.pool i; slots = is.slots i }
+    λ i. record { callers = callers i; codecs = codecs i; pool = is.pool i; slots = is.slots i; received = none_received }
 
 pub played_follows : (s : ScriptData) (media : List (List Chunk)) (made : List CoderId) (run : Run) → IsPlayed s media made run → FollowsTheOrder s media made run
 played_follows s media made run p = record { course = p.course; follows = p.follows; is_recorded = played_recorded p.course run p.holds }

@@ -60,7 +60,7 @@ pub took : (v : Course) (who : Who) (k place : ℕ) (t : Output) (callers : List
     → m ≡ record v.media { pool = v.media.pool ++ [] } → place ≡ length (codec_at k v.codecs).history
     → IsCome m after who (taken_came (next_numbers m.pool) who.step (Some (record { unit = t.unit; answer = StepResult.Unit k place t.number })) (variables_of who.caller m.variables)) (Some r)
     → callers ≡ append_at who.caller r v.callers
-    → ◌≡◌ {A = Course} (record { callers = callers; codecs = codecs; media = after; slots = slots }) (after_move (take_move who k (codec_at k v.codecs) (taken_came (next_numbers v.media.pool) who.step (found_at k (codec_at k v.codecs)) (variables_of who.caller v.media.variables))) v)
+    → ◌≡◌ {A = Course} (record { callers = callers; codecs = codecs; media = after; slots = slots; ports = v.ports }) (after_move (take_move who k (codec_at k v.codecs) (taken_came (next_numbers v.media.pool) who.step (found_at k (codec_at k v.codecs)) (variables_of who.caller v.media.variables))) v)
 took v who k place t callers codecs m after slots r is set went left at come noted =
     let d = codec_at k v.codecs in
     let same : m ≡ v.media = left ∙ media_same v.media in
@@ -71,7 +71,7 @@ took v who k place t callers codecs m after slots r is set went left at come not
     let codecs_are = set ∙ ap (λ (n : ℕ). codecs_after k (Entry.Call who (Call.Take n)) v.slots v.codecs) is.1 in
     let slots_are = went ∙ ap (λ (n : ℕ). slots_by k (Entry.Call who (Call.Take n)) v.slots d) is.1 in
     let media_is = here.1 ∙ ap (λ (z : Media). after_came who y z) (sym (media_same v.media)) in
-    (λ i. record { callers = results i; codecs = codecs_are i; media = media_is i; slots = slots_are i })
+    (λ i. record { callers = results i; codecs = codecs_are i; media = media_is i; slots = slots_are i; ports = v.ports })
     ∙ ap (λ (o : Option variables.Taken). after_move (take_move who k d (taken_came (next_numbers v.media.pool) who.step o (variables_of who.caller v.media.variables))) v) (sym (found k place d t is at))
 
 -- a take that found none is a look

@@ -1,5 +1,5 @@
 -- A replay: its codecs, its callers and its registry.
-use Rattle.std.specs.Prelude.{ℕ, ◌≡◌, ◌<◌, ◌&&◌, nat_le, Bool, true, List, [], map, length, slice_get, Option, Some, None, IfSome}
+use Rattle.std.specs.Prelude.{ℕ, ◌≡◌, ◌<◌, ◌&&◌, nat_le, nat_lt, Bool, true, List, [], map, length, slice_get, Option, Some, None, IfSome}
 use Rattle.wc_config.specs.declared.codec.CoderId.{CoderId}
 use Rattle.wc_chunk.specs.declared.chunk.Chunk.{Chunk}
 use Rattle.script_types.specs.declared.script.OrderItem.{OrderItem}
@@ -9,6 +9,7 @@ use Rattle.script_types.specs.declared.script.CallerItem.{CallerItem}
 use Rattle.script_types.specs.declared.script.CodecItem.{CodecItem}
 use Rattle.script_types.specs.declared.script.ScriptData.{ScriptData}
 use Rattle.script_types.specs.declared.steps.Step.{Step}
+use Rattle.script_types.specs.declared.steps.Step.TheVariants as a_step
 use Rattle.script_types.specs.Names.{names_codec}
 use Rattle.script_types.specs.declared.steps.MediaStep.{MediaStep}
 use Rattle.script_types.specs.declared.steps.MediaStep.TheVariants as on_media
@@ -37,12 +38,19 @@ IsInRange n (item.Reclaim k moment) = k < n
 abbrev pub NamesInRange : ℕ → Step → Type 0
 NamesInRange n x = IfSome (names_codec x) (λ k. k < n)
 
+-- a step uses one of so many ports, if it uses one
+abbrev pub is_use_within : ℕ → Step → Bool
+is_use_within n (a_step.Media (on_media.Post to content)) = nat_lt to n
+is_use_within n (a_step.Media (on_media.Receive from bind kind)) = nat_lt from n
+is_use_within n _ = true
+
 -- The script is sound, each step's number fits in 32 bits, and every step and every item of the order names one of the codecs, if it
--- names one.
+-- names one, and one of the ports.
 pub record IsPlayable (s : ScriptData) : Type 0 where
   pub faultless : is_sound s ≡ true
   pub sound : IsSound s
   pub names : (c j : ℕ) (x : Step) → step_in s c j ≡ Some x → NamesInRange (length s.codecs) x
+  pub ports : (c j : ℕ) (x : Step) → step_in s c j ≡ Some x → is_use_within (length s.ports) x ≡ true
   pub few : (c j : ℕ) (x : Step) → step_in s c j ≡ Some x → j < 4294967296
   pub items : (i : ℕ) (x : OrderItem) → slice_get (order_items s) i ≡ Some x → IsInRange (length s.codecs) x
 

@@ -7,6 +7,7 @@ mod desk;
 mod missing;
 mod moving;
 mod playing;
+mod ports;
 mod results;
 mod showings;
 mod steps;

@@ -4,11 +4,12 @@ ghost use Rattle.std.specs.List.{list_all};
 ghost use Rattle.run_model.specs.Fits.{IsLegalRun, FitsInOrder, recorded_of};
 ghost use Rattle.run_model.specs.Follow.{Follows, nothing_yet, order_items, record_of};
 ghost use Rattle.order_laws.specs.Ends.{course_with};
-ghost use Rattle.run_model.specs.Recorded.{opening_of};
+ghost use Rattle.run_model.specs.Recorded.{none_received, opening_of};
 ghost use Rattle.run_model.specs.Missing.{missing_in};
 ghost use Rattle.wc_replay.specs.Player.{IsPlayable, is_openable, new_desk, new_results, trace_of, caller_trace, IsRunOf, IsPlayed};
 
 use crate::desk::Desk;
+use crate::ports::open_ports;
 use crate::results::Results;
 use crate::steps::Player;
 use codec_model::Opening;
@@ -162,6 +163,7 @@ fn open_player<C: Coder>(
         callers: open_callers(alloc, script.callers.as_slice())?,
         media: CallerMedia::open(alloc, script.callers.as_slice())?,
         slots: Slots::open(alloc, coders)?,
+        ports: open_ports(alloc, script.ports.as_slice())?,
     })
 }
 
@@ -174,6 +176,7 @@ fn run_of<C: Coder>(alloc: Global, player: Player<C>) -> Result<Run, NoMemory>
         callers,
         media,
         slots,
+        ports: _,
     } = player;
     let held = media.held();
     Ok(Run {
@@ -261,8 +264,8 @@ pub fn replay_with<C: Coder>(
     ensures legal { IfOk result (λ run. IsLegalRun script.now run) }
     ensures fits { IfOk result (λ run. FitsInOrder script.now media.now (map C.coder coders.items) run) }
     ensures made { IfOk result
-        (λ run. recorded_of run
-        ≡ record_of (course_with listed.now script.now media.now (order_items script.now)
+        (λ run. recorded_of none_received run
+        ≡ record_of none_received (course_with listed.now script.now media.now (order_items script.now)
         (nothing_yet script.now (map C.coder coders.items)))) }
 {
     following_fits();

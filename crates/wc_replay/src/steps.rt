@@ -9,12 +9,15 @@ ghost use Rattle.codec_model.specs.Replay.{may_call, encode_error, refused_as};
 ghost use Rattle.media_accounts.specs.Accounts.{AreLent};
 ghost use Rattle.media_variables.specs.Held.{medium_found};
 ghost use Rattle.media_variables.specs.declared.lending.MediumFound.TheVariants as found;
-ghost use Rattle.order_laws.specs.Course.{held_by_codecs};
+ghost use Rattle.order_laws.specs.Course.{held_by_all};
 ghost use Rattle.order_laws.specs.Ends.{is_listed, is_listed_end};
 ghost use Rattle.script_types.specs.Names.{taken_from};
 ghost use Rattle.script_types.specs.declared.steps.Step.TheVariants as a_step;
 ghost use Rattle.media_variables.specs.Variables.{Brought, lendable_at, media_came, next_numbers};
-ghost use Rattle.media_variables.specs.Variables.{taken_came, variables_of};
+ghost use Rattle.media_variables.specs.Variables.{taken_came, uses_port, variables_of};
+ghost use Rattle.media_variables.specs.Variables.{post_came, posted_from, received_came};
+ghost use Rattle.run_model.specs.Follow.{get_move, post_move, waiting_at};
+ghost use Rattle.wc_replay.specs.Player.{is_use_within};
 ghost use Rattle.run_model.specs.Follow.{Ask, with_result, after_move, advance, item_entry, call_move, encode_of, handle_move, media_move, take_move, found_at, look_of_flush, look_of_state, step_move, follow_item};
 ghost use Rattle.run_model.specs.Recorded.{chunk_for, promise_after, steps_of, source_error};
 ghost use Rattle.report_text.specs.declared.result.StepResult.TheVariants as came;
@@ -25,6 +28,7 @@ ghost use Rattle.wc_replay.specs.Player.{IsInRange, NamesInRange, IsPlayable, ca
 use crate::copied::copied_chunk;
 use crate::desk::{Answer, Desk, Output};
 use crate::moving::{call_at, desk_at, place_at, refusal_at, take_at};
+use crate::ports::{Port, put_at, take_at as take_from};
 use crate::results::{Results, made_by, note, result_of};
 use codec_model::{Call, Handed, PromiseState};
 use coder_api::Coder;
@@ -37,13 +41,14 @@ use std::marker::Model;
 use wc_base::{By, DomError, List, NoMemory, Who};
 use wc_chunk::Chunk;
 
-/// The codecs, each caller's results so far, the callers' media, and the registry of the boxes.
+/// The codecs, each caller's results so far, the callers' media, the registry of the boxes, and the ports.
 #[derive(Drop)]
 pub(crate) struct Player<C: Coder> {
     pub(crate) desks: Vec<Desk<C>>,
     pub(crate) callers: Vec<Results>,
     pub(crate) media: CallerMedia,
     pub(crate) slots: Slots<C>,
+    pub(crate) ports: Vec<Port>,
 }
 
 impl<C: Coder> Model for Player<C> {
@@ -51,7 +56,7 @@ impl<C: Coder> Model for Player<C> {
 
     ghost Value = { Course };
 
-    ghost view = { λ p. record { callers = p.callers.items; codecs = p.desks.items; media = p.media; slots = p.slots } };
+    ghost view = { λ p. record { callers = p.callers.items; codecs = p.desks.items; media = p.media; slots = p.slots; ports = p.ports.items } };
 }
 
 /// Whether the entry at this place of the codec with this number is listed.
@@ -202,7 +207,7 @@ impl<C: Coder> Player<C> {
         requires none { adds_held (entry.Call who call) ≡ [] }
         requires givable { AreGivable self.old.codecs self.old.slots.history }
         requires lent { AreLent self.old.media.pool self.old.media.variables
-            (held_by_codecs self.old.codecs) }
+            (held_by_all self.old) }
         ensures { OnOk result (self.new ≡ after_move (Ask who codec call) self.old) }
     {
         let Player {
@@ -210,6 +215,7 @@ impl<C: Coder> Player<C> {
             callers,
             media,
             slots,
+            ports: _,
         } = self;
         let answer = call_at(desks, slots, media, codec, who, call, None)?;
         note(callers, who.caller, call_result(codec, answer))
@@ -244,7 +250,7 @@ impl<C: Coder> Player<C> {
         requires codec { codec < length self.old.codecs }
         requires givable { AreGivable self.old.codecs self.old.slots.history }
         requires lent { AreLent self.old.media.pool self.old.media.variables
-            (held_by_codecs self.old.codecs) }
+            (held_by_all self.old) }
         ensures { OnOk result
             (self.new ≡ after_move (call_move who codec (option_map Decode chunk)) self.old) }
     {
@@ -286,7 +292,7 @@ impl<C: Coder> Player<C> {
             is_some (encode_error detached control) ≡ true }
         requires givable { AreGivable self.old.codecs self.old.slots.history }
         requires lent { AreLent self.old.media.pool self.old.media.variables
-            (held_by_codecs self.old.codecs) }
+            (held_by_all self.old) }
         ensures { OnOk result
             (self.new ≡ after_move (Ask who codec (Encode (refused_as detached))) self.old) }
     {
@@ -317,6 +323,7 @@ impl<C: Coder> Player<C> {
             callers,
             media,
             slots,
+            ports: _,
         } = self;
         let answer = call_at(desks, slots, media, codec, who, call, Some(held))?;
         note(callers, who.caller, call_result(codec, answer))
@@ -329,7 +336,7 @@ impl<C: Coder> Player<C> {
             medium_found (lendable_at vs content) ≡ found.Open }
         requires givable { AreGivable self.old.codecs self.old.slots.history }
         requires lent { AreLent self.old.media.pool self.old.media.variables
-            (held_by_codecs self.old.codecs) }
+            (held_by_all self.old) }
         ensures { let d = codec_at codec self.old.codecs in
             let x = lendable_at (variables_of who.caller self.old.media.variables) content in
             OnOk result
@@ -348,7 +355,7 @@ impl<C: Coder> Player<C> {
         requires codec { codec < length self.old.codecs }
         requires givable { AreGivable self.old.codecs self.old.slots.history }
         requires lent { AreLent self.old.media.pool self.old.media.variables
-            (held_by_codecs self.old.codecs) }
+            (held_by_all self.old) }
         ensures { let d = codec_at codec self.old.codecs in
             let x = lendable_at (variables_of who.caller self.old.media.variables) content in
             OnOk result
@@ -372,8 +379,9 @@ impl<C: Coder> Player<C> {
         chunk: Option<Chunk>,
         step: &MediaStep,
     ) -> Result<(), NoMemory>
-        requires { who.caller < length self.old.media.variables }
-        ensures { let b : Brought = record { chunk = chunk; taken = None } in
+        requires there { who.caller < length self.old.media.variables }
+        requires ports { uses_port step.now ≡ false }
+        ensures { let b : Brought = record { chunk = chunk; taken = None; received = None } in
             OnOk result
             (self.new
             ≡ after_move
@@ -394,7 +402,7 @@ impl<C: Coder> Player<C> {
         requires next { IsNext (codec_at codec self.old.codecs) (Some output) }
         requires givable { AreGivable self.old.codecs self.old.slots.history }
         requires lent { AreLent self.old.media.pool self.old.media.variables
-            (held_by_codecs self.old.codecs) }
+            (held_by_all self.old) }
         ensures { let d = codec_at codec self.old.codecs in
             let numbers = next_numbers self.old.media.pool in
             let came = taken_came numbers who.step (found_at codec d)
@@ -406,6 +414,7 @@ impl<C: Coder> Player<C> {
             callers,
             media,
             slots,
+            ports: _,
         } = self;
         let Output { number, unit } = output;
         let answer = call_at(desks, slots, media, codec, who, Call::Take(number), None)?;
@@ -419,7 +428,7 @@ impl<C: Coder> Player<C> {
         requires caller { who.caller < length self.old.media.variables }
         requires givable { AreGivable self.old.codecs self.old.slots.history }
         requires lent { AreLent self.old.media.pool self.old.media.variables
-            (held_by_codecs self.old.codecs) }
+            (held_by_all self.old) }
         ensures { let d = codec_at codec self.old.codecs in
             let numbers = next_numbers self.old.media.pool in
             let came = taken_came numbers who.step (found_at codec d)
@@ -435,8 +444,8 @@ impl<C: Coder> Player<C> {
         }
     }
 
-    /// A step of a caller on media: a take of a codec's output, an encode, or one that no codec has a part in.
-    fn on_media(
+    /// A step of a caller on media that uses no port.
+    fn on_own_media(
         &mut self,
         alloc: Global,
         media: &[List<Chunk>],
@@ -447,10 +456,11 @@ impl<C: Coder> Player<C> {
     ) -> Result<(), NoMemory>
         requires steps { steps_of script.now who.caller ≡ steps.now }
         requires range { NamesInRange (length self.old.codecs) (a_step.Media step.now) }
+        requires ports { uses_port step.now ≡ false }
         requires caller { who.caller < length self.old.media.variables }
         requires givable { AreGivable self.old.codecs self.old.slots.history }
         requires lent { AreLent self.old.media.pool self.old.media.variables
-            (held_by_codecs self.old.codecs) }
+            (held_by_all self.old) }
         ensures { OnOk result
             (self.new
             ≡ after_move (media_move script.now media.now who step.now self.old) self.old) }
@@ -467,6 +477,72 @@ impl<C: Coder> Player<C> {
         }
     }
 
+    /// A post of a caller: the medium of its variable goes into a port, unless it is detached or absent.
+    fn post(&mut self, who: Who, port: u64, content: u32) -> Result<(), NoMemory>
+        requires port { port < length self.old.ports }
+        requires caller { who.caller < length self.old.media.variables }
+        ensures { let vs = variables_of who.caller self.old.media.variables in
+            let came = Some (post_came content vs) in
+            OnOk result
+            (self.new ≡ after_move (post_move who port (posted_from vs content) came) self.old) }
+    {
+        let (came, medium) = self.media.post(who, content);
+        put_at(&mut self.ports, port, who, medium)?;
+        note(&mut self.callers, who.caller, came)
+    }
+
+    /// A receive of a caller: the oldest medium that waits in the port becomes what the step's variable holds, if one does.
+    fn receive_from(&mut self, who: Who, port: u64) -> Result<(), NoMemory>
+        requires port { port < length self.old.ports }
+        requires caller { who.caller < length self.old.media.variables }
+        requires lent { AreLent self.old.media.pool self.old.media.variables
+            (held_by_all self.old) }
+        ensures { let vs = variables_of who.caller self.old.media.variables in
+            let came = Some (received_came who.step (waiting_at port self.old) vs) in
+            OnOk result (self.new ≡ after_move (get_move who port came) self.old) }
+    {
+        match take_from(&mut self.ports, port) {
+            Some(posted) => {
+                let came = self.media.receive(who, posted.poster, posted.medium)?;
+                note(&mut self.callers, who.caller, came)
+            }
+            None => self.answer(who, StepResult::Nothing),
+        }
+    }
+
+    /// A step of a caller on media: a take of a codec's output, an encode, a post or a receive, or one that no codec has a
+    /// part in.
+    fn on_media(
+        &mut self,
+        alloc: Global,
+        media: &[List<Chunk>],
+        steps: &[Step],
+        who: Who,
+        step: &MediaStep,
+        script: &ScriptData,
+    ) -> Result<(), NoMemory>
+        requires steps { steps_of script.now who.caller ≡ steps.now }
+        requires range { NamesInRange (length self.old.codecs) (a_step.Media step.now) }
+        requires ports { is_use_within (length self.old.ports) (a_step.Media step.now) ≡ true }
+        requires caller { who.caller < length self.old.media.variables }
+        requires givable { AreGivable self.old.codecs self.old.slots.history }
+        requires lent { AreLent self.old.media.pool self.old.media.variables
+            (held_by_all self.old) }
+        ensures { OnOk result
+            (self.new
+            ≡ after_move (media_move script.now media.now who step.now self.old) self.old) }
+    {
+        match step {
+            MediaStep::Post { to, content } => self.post(who, *to, content.step),
+            MediaStep::Receive {
+                from,
+                bind: _,
+                kind: _,
+            } => self.receive_from(who, *from),
+            _ => self.on_own_media(alloc, media, steps, who, step, script),
+        }
+    }
+
     /// A step of a caller, one of these steps of its own.
     fn step(
         &mut self,
@@ -479,10 +555,11 @@ impl<C: Coder> Player<C> {
     ) -> Result<(), NoMemory>
         requires steps { steps_of script.now who.caller ≡ steps.now }
         requires range { NamesInRange (length self.old.codecs) step.now }
+        requires ports { is_use_within (length self.old.ports) step.now ≡ true }
         requires caller { who.caller < length self.old.media.variables }
         requires givable { AreGivable self.old.codecs self.old.slots.history }
         requires lent { AreLent self.old.media.pool self.old.media.variables
-            (held_by_codecs self.old.codecs) }
+            (held_by_all self.old) }
         ensures { OnOk result
             (self.new
             ≡ after_move (step_move script.now media.now who step.now self.old) self.old) }
@@ -518,10 +595,11 @@ impl<C: Coder> Player<C> {
     ) -> Result<(), NoMemory>
         requires codecs { length self.old.codecs ≡ length script.now.codecs }
         requires callers { length self.old.media.variables ≡ length script.now.callers }
+        requires ports { length self.old.ports ≡ length script.now.ports }
         requires playable { IsPlayable script.now }
         requires givable { AreGivable self.old.codecs self.old.slots.history }
         requires lent { AreLent self.old.media.pool self.old.media.variables
-            (held_by_codecs self.old.codecs) }
+            (held_by_all self.old) }
         ensures { OnOk result
             (self.new ≡ follow_item script.now media.now false (item.Caller caller) self.old) }
     {
@@ -550,7 +628,7 @@ impl<C: Coder> Player<C> {
         requires codec { codec < length self.old.codecs }
         requires givable { AreGivable self.old.codecs self.old.slots.history }
         requires lent { AreLent self.old.media.pool self.old.media.variables
-            (held_by_codecs self.old.codecs) }
+            (held_by_all self.old) }
         ensures { IfOk result
             (λ wants. self.new
             ≡ after_move
@@ -561,6 +639,7 @@ impl<C: Coder> Player<C> {
             callers: _,
             media,
             slots,
+            ports: _,
         } = self;
         take_at(desks, slots, media, codec, alloc, item, starved)
     }
@@ -577,11 +656,12 @@ impl<C: Coder> Player<C> {
     ) -> Result<bool, NoMemory>
         requires codecs { length self.old.codecs ≡ length script.now.codecs }
         requires callers { length self.old.media.variables ≡ length script.now.callers }
+        requires ports { length self.old.ports ≡ length script.now.ports }
         requires playable { IsPlayable script.now }
         requires range { IsInRange (length self.old.codecs) item }
         requires givable { AreGivable self.old.codecs self.old.slots.history }
         requires lent { AreLent self.old.media.pool self.old.media.variables
-            (held_by_codecs self.old.codecs) }
+            (held_by_all self.old) }
         ensures { IfOk result
             (λ wants. self.new ≡ follow_item script.now media.now wants item self.old) }
     {

@@ -3,6 +3,7 @@ use Rattle.std.proofs.lemmas.Result.{IfOk-weaker}
 use Rattle.run_model.specs.declared.run.Run.{Run}
 use Rattle.run_model.specs.Fits.{IsLegalRun, FitsInOrder, recorded_of}
 use Rattle.run_model.specs.Follow.{order_items, nothing_yet, record_of}
+use Rattle.run_model.specs.Recorded.{none_received}
 use Rattle.order_laws.specs.Ends.{course_with}
 use Rattle.wc_replay.specs.Player.{IsRunOf, IsPlayed}
 use Rattle.wc_replay.proofs.{Playable.playable_of, Playable.openable_of, Runs.played_follows, Runs.played_legal, Runs.played_recorded, Orders.with_follows}
@@ -24,5 +25,5 @@ returns g c =
     record {
       legal = IfOk-weaker c.play_with.result (IsRunOf course) (IsLegalRun s) (λ run is. played_legal s media ids run (whole run is) (c.following_stands.ensures s media ids (order_items s) course c.data.ensures.sound follows)) made;
       fits = IfOk-weaker c.play_with.result (IsRunOf course) (FitsInOrder s media ids) (λ run is. (let f = played_follows s media ids run (whole run is) in record { fits = c.following_fits.ensures.fits s media ids run c.data.ensures.sound f; follows = f })) made;
-      made = IfOk-weaker c.play_with.result (IsRunOf course) (λ run. recorded_of run ≡ record_of course) (λ run is. played_recorded course run is) made;
+      made = IfOk-weaker c.play_with.result (IsRunOf course) (λ run. recorded_of none_received run ≡ record_of none_received course) (λ run is. played_recorded course run is) made;
     }

@@ -13,7 +13,7 @@ take-requires g c =
     let x = slice_index_or c.items_of-item-items.result.now i (OrderItem.Caller 0) in
     let course = c.following_stands.ensures s c.args.media.now c.args.player.now.slots.made (take i (order_items s)) c.loop-item.player c.requires.playable.faultless c.loop-item.invariant in
     let range = subst (λ (n : ℕ). IsInRange n x) (sym course.codecs) (c.requires.playable.items i x (item_at (order_items s) c.items_of-item-items.result.now i (OrderItem.Caller 0) c.items_of-item-items.ensures c.loop-item-test.true)) in
-    (search rules, (course.codecs, (course.media, (c.requires.playable, (range, (course.givable, course.lent))))))
+    (search rules, (course.codecs, (course.media, (course.ports, (c.requires.playable, (range, (course.givable, course.lent)))))))
 
 pub loop-item-preserved : goal.loop-item-preserved
 loop-item-preserved g c =

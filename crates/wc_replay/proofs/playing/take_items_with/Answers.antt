@@ -2,8 +2,8 @@ use Rattle.std.proofs.Common.{ℕ, ◌≡◌, Bool, true, false, not, take, refl
 use mathlib.Core.Bool.{beq}
 use Rattle.std.specs.Prelude.{slice_index_or}
 use Rattle.script_types.specs.declared.script.OrderItem.{OrderItem}
-use Rattle.run_model.specs.Follow.{Course, Follows, order_items, nothing_yet, follow_item}
-use Rattle.order_laws.specs.Ends.{course_with, is_listed_end}
+use Rattle.run_model.specs.Follow.{Follows, order_items, nothing_yet, follow_item}
+use Rattle.order_laws.specs.Ends.{course_with}
 use Rattle.wc_replay.specs.Player.{IsInRange}
 use Rattle.wc_replay.proofs.{Orders.item_at, Orders.course_to, Orders.with_follows}
 use Rattle.wc_replay.proofs.playing.take_items_with.Goals as goal
@@ -31,7 +31,7 @@ take-requires g c =
     let follows = subst (Follows s c.args.media.now front nothing) (sym made) (with_follows c.args.listed.now s c.args.media.now front nothing) in
     let course = c.following_stands.ensures s c.args.media.now c.args.player.now.slots.made front c.loop-item.player c.requires.playable.faultless follows in
     let range = subst (λ (n : ℕ). IsInRange n x) (sym course.codecs) (c.requires.playable.items i x (item_at (order_items s) c.items_of-item-items.result.now i (OrderItem.Caller 0) c.items_of-item-items.ensures c.loop-item-test.true)) in
-    (search rules, (course.codecs, (course.media, (c.requires.playable, (range, (course.givable, course.lent))))))
+    (search rules, (course.codecs, (course.media, (course.ports, (c.requires.playable, (range, (course.givable, course.lent)))))))
 
 same_test : (a b : Bool) → not (beq a b) ≡ false → a ≡ b
 same_test true true h = refl

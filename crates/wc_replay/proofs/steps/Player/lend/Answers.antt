@@ -26,7 +26,7 @@ returns g c =
     let p = c.self.inside in
     let k = c.args.codec in
     let who = c.args.who in
-    let v : Course = record { callers = p.callers.items; codecs = p.desks.items; media = p.media; slots = p.slots } in
+    let v : Course = record { callers = p.callers.items; codecs = p.desks.items; media = p.media; slots = p.slots; ports = p.ports.items } in
     let d = codec_at k v.codecs in
     let x : HeldMedium = c.in_ok-medium.medium in
     let o = lendable_at (variables_of who.caller v.media.variables) c.args.content in
