@@ -20,7 +20,7 @@ ok_same a b r is so = cc
 ok_alike : {X E : Type 0} (a b : X) (r s : Result X E) → r ≡ s → r ≡ Ok a → s ≡ Ok b → a ≡ b
 ok_alike a b r s is p q = cc
 
-sound : ScriptsAreSound → (o : Option Data) (s : ScriptData) → script_of_value o ≡ Ok s → IsTrue (is_sound s)
+pub sound : ScriptsAreSound → (o : Option Data) (s : ScriptData) → script_of_value o ≡ Ok s → IsTrue (is_sound s)
 sound law None s is = absurd cc
 sound law (Some d) s is = law d s is
 

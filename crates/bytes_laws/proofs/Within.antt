@@ -1,14 +1,19 @@
 -- What is spelled is within its types.
-use Rattle.std.proofs.Common.{◌≡◌, ◌<◌, ◌^◌, ℕ, zero, suc, List, [], ◌∷◌, Option, Some, None, subst}
+use Rattle.std.proofs.Common.{◌≡◌, ◌<◌, ◌≤◌, ◌^◌, ◌&&◌, ℕ, zero, suc, nat_le, true, arith, List, [], ◌∷◌, Option, Some, None, subst}
 use Rattle.std.specs.Prelude.{unwrap_or}
 use Rattle.std.specs.Option.{IfSome}
-use Rattle.std.specs.List.{AllByRecursion, slice_get}
+use Rattle.std.specs.List.{AllByRecursion, list_all, slice_get, sum_by}
+use Rattle.std.proofs.lemmas.Bool.{and_parts, leb-true}
+use Rattle.json_data.specs.View.{value_of}
 use Rattle.wc_base.specs.{Options.some_same}
 use Rattle.wc_chunk.specs.declared.chunk.Chunk.{Chunk}
 use Rattle.wc_config.specs.declared.{config.Config.Config}
 use Rattle.script_types.specs.declared.{script.ScriptData.ScriptData, script.OrderItem.OrderItem, steps.Step.Step}
-use Rattle.script_types.specs.declared.steps.{ChunkInit.ChunkInit, ChunkSource.ChunkSource}
-use Rattle.script_steps.specs.Within.{Is32Bits, HasSmallNumbers, IsSmallChunk as IsSmallInit, IsSmallSource, IsStepWithin}
+use Rattle.script_types.specs.declared.steps.{ChunkInit.ChunkInit, ChunkSource.ChunkSource, InitShape.InitShape, InitData.InitData}
+use Rattle.script_types.specs.Sound.{is_sound, are_small, bytes_of_caller, bytes_of_step, most_chunk, most_media}
+use Rattle.script_types.specs.SoundLaws.{parts_of, all_at as test_at}
+use Rattle.script_steps.specs.Within.{Is32Bits, HasSmallNumbers, IsSmallShape, IsSmallData, IsSmallChunk as IsSmallInit, IsSmallSource, IsStepWithin}
+use Rattle.wc_script.specs.Laws.{ScriptsAreSound}
 use Rattle.wc_script.specs.Within.{HasSmallMoment, HasSmallSteps, IsScriptWithin, ScriptsAreWithin}
 use Rattle.media_files.specs.Within.{MediaAreWithin}
 use Rattle.wc_demux.specs.Within.{IsSmallChunk}
@@ -16,8 +21,9 @@ use Rattle.codec_accounts.specs.Owed.{at}
 use Rattle.report_lines.specs.FieldLaws.{FitsOrAbsent}
 use Rattle.run_model.specs.Recorded.{steps_of, chunk_of, chunk_from, chunk_by}
 use Rattle.run_ranges.specs.{Counts.caller_of_step, Counts.all_at}
-use Rattle.run_ranges.specs.Ranges.{IsMoment, IsSizeWithin, IsConfigWithin, IsChunkWithin}
+use Rattle.run_ranges.specs.Ranges.{IsMoment, IsSizeWithin, IsConfigWithin, IsChunkWithin, IsInitWithin, IsDataWithin}
 use Rattle.bytes_laws.specs.Runs.{SpelledIsWithin}
+use Rattle.bytes_laws.proofs.Same.{sound}
 
 moment : (x : OrderItem) → HasSmallMoment x → IsMoment x
 moment (OrderItem.Caller c) h = tt
@@ -71,9 +77,27 @@ step_at s h c j x is =
     let k = caller_of_step s.callers c j x is in
     all_at IsStepWithin k.0.steps j x (all_at HasSmallSteps s.callers c k.0 h.callers k.1) k.2
 
-pub spelled_within : ScriptsAreWithin → MediaAreWithin → SpelledIsWithin
-spelled_within scripts files f bytes s media made is few =
+init : (shape : InitShape) → IsSmallShape shape → IsInitWithin shape
+init (InitShape.Chunk key timestamp duration) h = (h.0, fits duration h.1)
+init (InitShape.Sound shape) h = h
+init (InitShape.Picture shape) h = (h.0, fits shape.duration h.1)
+
+data_of : (content : InitData) → IsSmallData content → IsDataWithin content
+data_of (InitData.Hex bytes) h = h
+data_of (InitData.Buffer v) h = tt
+
+-- no step of a sound script has more inline data than the limit
+small_at : (s : ScriptData) → is_sound s ≡ true → (c j : ℕ) (x : Step) → slice_get (steps_of s c) j ≡ Some x → bytes_of_step x ≤ most_chunk
+small_at s sound c j x is =
+    let k = caller_of_step s.callers c j x is in
+    let all = (and_parts (list_all are_small s.callers) (nat_le (sum_by bytes_of_caller s.callers) s.inline && nat_le s.inline most_media) (parts_of s sound).small).0 in
+    let own = test_at are_small s.callers c k.0 all k.1 in
+    leb-true (bytes_of_step x) most_chunk (test_at (λ (y : Step). nat_le (bytes_of_step y) most_chunk) k.0.steps j x own k.2)
+
+pub spelled_within : ScriptsAreWithin → ScriptsAreSound → MediaAreWithin → SpelledIsWithin
+spelled_within scripts sounds files f bytes s media made is few =
     let h = scripts bytes s is.reads in
+    let faultless = sound sounds (value_of bytes) s is.reads in
     let all = files f s media is.hold is.gives in
     record {
       moments = moment_at s.order h.order;
@@ -81,5 +105,7 @@ spelled_within scripts files f bytes s media made is few =
       chunks = λ c j x chunk there by. from_step media all x (step_at s h c j x there) chunk by;
       sounds = λ c j bind init there. let small = step_at s h c j _ there in ((small.frames, small.timestamp), small.content);
       frames = λ c j bind init there. let small = step_at s h c j _ there in ((small.timestamp, fits init.shape.duration small.duration), small.content);
+      buffers = λ c j bind content there. let small = small_at s faultless c j _ there in (step_at s h c j _ there, omega (arith, small));
+      inits = λ c j bind i there. let small = step_at s h c j _ there in (init i.shape small.0, data_of i.content small.1);
       boxes = few;
     }

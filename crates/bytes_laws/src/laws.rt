@@ -11,6 +11,7 @@ pub fn spelled_is_within()
     ensures { SpelledIsWithin }
 {
     scripts_are_within();
+    scripts_are_sound();
     media_are_within();
 }
 

@@ -1,6 +1,6 @@
 -- Legal runs that fit their scripts are told.
-use Rattle.std.proofs.Common.{◌≡◌, ℕ, zero, suc, ◌+◌, true, false, List, [], ◌∷◌, ◌++◌, map, Option, Some, None, refl, sym, ap, subst, ◌∙◌, arith}
-use Rattle.std.specs.Prelude.{take, option_map, option_and_then, unwrap_or}
+use Rattle.std.proofs.Common.{◌≡◌, ℕ, zero, suc, ◌+◌, true, false, List, [], ◌∷◌, ◌++◌, length, map, Option, Some, None, refl, sym, ap, subst, ◌∙◌, arith}
+use Rattle.std.specs.Prelude.{take, option_map, unwrap_or}
 use Rattle.std.specs.Option.{option_or}
 use Rattle.std.specs.List.{zip, slice_get}
 use Rattle.wc_config.specs.declared.codec.CoderId.{CoderId}
@@ -17,20 +17,21 @@ use Rattle.codec_accounts.specs.{Owed.at, Codec.state_after}
 use Rattle.script_types.specs.declared.{script.ScriptData.ScriptData, script.CodecItem.CodecItem}
 use Rattle.script_types.specs.Sound.{is_sound}
 use Rattle.report_text.specs.declared.result.StepResult.{StepResult}
-use Rattle.media_variables.specs.Variables.{Taken, medium_at, chunk_in_medium}
+use Rattle.media_variables.specs.Variables.{Taken, Received}
 use Rattle.media_accounts.specs.Accounts.{without_last, ops_of_entry, called_for, called_at}
-use Rattle.media_accounts.specs.Contents.{chunk_of_unit, ContentsAreKept, ChunksAreTaken}
+use Rattle.media_accounts.specs.Contents.{ContentsAreKept, ChunksAreGiven}
 use Rattle.run_model.specs.declared.run.CallerTrace.{CallerTrace}
 use Rattle.run_model.specs.declared.run.CodecTrace.{CodecTrace}
 use Rattle.run_model.specs.declared.run.Run.{Run}
 use Rattle.run_model.specs.FitsLaws.{calls_by_places}
-use Rattle.run_model.specs.Recorded.{Recorded, steps_of, opening_in, opening_at, chunk_at}
-use Rattle.run_model.specs.Fits.{Fits, FitsInOrder, IsLegalTrace, AreLegalTraces, IsLegalRun, LocalStepsAnswer, recorded_of, entry_in, result_in, taken_by, brought_to, variables_at}
+use Rattle.run_model.specs.Recorded.{Recorded, opening_in, opening_at}
+use Rattle.run_model.specs.Follow.{order_items}
+use Rattle.run_model.specs.Fits.{Fits, FitsInOrder, IsLegalTrace, AreLegalTraces, IsLegalRun, recorded_of, entry_in, result_in, taken_by}
 use Rattle.run_ranges.specs.{Counts.traces_count, Ranges.AreWithin, Ranges.LegalRunsFit}
 use Rattle.report_reader.specs.declared.known.Known.{Known}
-use Rattle.report_reader.specs.Arguments.{results_of, output_of, taken_in, cloned, pair_for}
+use Rattle.report_reader.specs.Arguments.{results_of, results_in, output_of, taken_in, cloned, pair_for}
 use Rattle.report_reader.specs.Told.{known_of, HoldAll, IsToldTrace, AreToldTraces, IsTold}
-use Rattle.report_reader.proofs.{RunLaws.shown_units_of, KindLaws.legal_plain, StandingLaws.IsStanding, StandingLaws.stands}
+use Rattle.report_reader.proofs.{RunLaws.shown_units_of, KindLaws.legal_plain, PortLaws.Grown, PortLaws.total, PortLaws.order_grows, FoundLaws.IsRun, FoundLaws.all_found}
 use Rattle.report_reader.proofs.CallLaws.{AreFound, HasPair, GetsArguments, IsMade, IsGiven, entry_holds}
 
 -- ---- outputs
@@ -62,31 +63,38 @@ results_at _ _ = refl
 unit_of_taken : (answer : StepResult) (o : Option media.Unit) (t : Taken) → option_map (λ u. let y : Taken = record { unit = u; answer = answer } in y) o ≡ Some t → o ≡ Some t.unit
 unit_of_taken answer o t e = grind (arith, e)
 
-taken_output : (script : ScriptData) (run : Run) → AreLegalTraces script.codecs run.codecs → (o : Option StepResult) (t : Taken) → taken_by script (recorded_of run) o ≡ Some t → output_of (map shown_units_of run.codecs) o ≡ Some t.unit
-taken_output script run legal o t e = grind (arith, outputs_are, unit_of_taken, legal, e)
+taken_output : (script : ScriptData) (received : ℕ → ℕ → Option Received) (run : Run) → AreLegalTraces script.codecs run.codecs → (o : Option StepResult) (t : Taken) → taken_by script (recorded_of received run) o ≡ Some t → output_of (map shown_units_of run.codecs) o ≡ Some t.unit
+taken_output script received run legal o t e = grind (arith, outputs_are, unit_of_taken, legal, e)
 
 -- what a report shows of taken outputs is what the run brings to its callers' steps
-taken_is : (script : ScriptData) (run : Run) → AreLegalTraces script.codecs run.codecs → (c j : ℕ) (t : Taken) → taken_by script (recorded_of run) (result_in (recorded_of run) c j) ≡ Some t → taken_in (known_of run) c j ≡ Some t.unit
-taken_is script run legal c j t brought = grind (arith, results_at run.callers c, taken_output script run legal (result_in (recorded_of run) c j) t, brought)
+taken_is : (script : ScriptData) (received : ℕ → ℕ → Option Received) (run : Run) → AreLegalTraces script.codecs run.codecs → (c j : ℕ) (t : Taken) → taken_by script (recorded_of received run) (result_in (recorded_of received run) c j) ≡ Some t → taken_in (known_of run) c j ≡ Some t.unit
+taken_is script received run legal c j t brought = grind (arith, results_at run.callers c, taken_output script received run legal (result_in (recorded_of received run) c j) t, brought)
 
 -- ---- what arguments are found in
 
-either_found : (made a b : Option Chunk) (value : Chunk) → ((c : Chunk) → a ≡ Some c → b ≡ Some c) → option_or made a ≡ Some value → option_or made b ≡ Some value
-either_found made a b value h e = grind (arith, h, e)
+total_results : (callers : List CallerTrace) → total (map (λ t. t.results) callers) ≡ results_in callers
+total_results [] = refl
+total_results (t ∷ ts) = ap (λ (n : ℕ). length t.results + n) (total_results ts)
 
-all_found : ContentsAreKept → ChunksAreTaken → (script : ScriptData) (files : List (List Chunk)) (run : Run) → AreLegalTraces script.codecs run.codecs → LocalStepsAnswer script files run → AreFound script files (recorded_of run) (known_of run)
-all_found kept taken script files run legal locals =
-    let w = recorded_of run in
-    let brought = brought_to script files w in
-    let known = known_of run in
-    record {
-      chunks = λ c n j value e.
-          let vs = variables_at script files w c n in
-          either_found (chunk_at files (steps_of script c) j) (option_and_then chunk_in_medium (medium_at vs j)) (option_and_then chunk_of_unit (taken_in known c j)) value
-          (λ chunk is. taken (steps_of script) brought w.pool c (taken_in known c) n j chunk (λ i on bind kind t made is. taken_is script run legal c i t is) is) e;
-      contents = λ c n j x r is held. kept (steps_of script) brought w.pool c (taken_in known c) n j x r (λ i on bind kind t made is. taken_is script run legal c i t is) is held;
-      standing = λ c n j r x there lent. subst (λ (rs : List StepResult). IsStanding (steps_of script c) rs n j x) (results_at run.callers c) (stands script files w locals c n j r x there lent);
-    }
+-- what a legal replay's variables hold is found in its report
+legal_found : ContentsAreKept → ChunksAreGiven → (script : ScriptData) (files : List (List Chunk)) (made : List CoderId) (run : Run) → is_sound script ≡ true → IsLegalRun script run → (replayed : FitsInOrder script files made run)
+    → AreFound script files (recorded_of replayed.fits.received run) (known_of run)
+legal_found kept chunks script files made run sound legal replayed =
+    let fits = replayed.fits in
+    let w = recorded_of fits.received run in
+    let course = replayed.follows.course in
+    let same : w.callers ≡ course.callers = ap (λ (x : Recorded). x.callers) replayed.follows.is_recorded in
+    let is_run : IsRun script files w (known_of run) = record {
+      results = λ c. results_at run.callers c;
+      taken = λ c j t is. taken_is script fits.received run legal.codecs c j t is;
+      sound = sound;
+      calls = fits.calls;
+      locals = fits.locals;
+      ports = fits.ports;
+      grown = subst (Grown script) (sym same) (order_grows script files made (order_items script) course replayed.follows.follows);
+      deep = let count = total_results run.callers in omega (arith, count);
+    } in
+    all_found kept chunks script files w (known_of run) is_run
 
 -- ---- clones
 
@@ -99,10 +107,10 @@ pair_is k place [] p rest e = absurd cc
 pair_is k place (x ∷ xs) p rest e = grind (arith, clone_first, pair_is k place xs p rest, e)
 
 -- an entry's clone is found
-pair_found : (script : ScriptData) (files : List (List Chunk)) (made : List CoderId) (run : Run) → Fits script files made run → (k place : ℕ) (e : Entry) → entry_in (recorded_of run) k place ≡ Some e → HasPair (known_of run) k place e
+pair_found : (script : ScriptData) (files : List (List Chunk)) (made : List CoderId) (run : Run) (fits : Fits script files made run) (k place : ℕ) (e : Entry) → entry_in (recorded_of fits.received run) k place ≡ Some e → HasPair (known_of run) k place e
 pair_found script files made run fits k place e is p adds =
     let o = opening_at script k in
-    let h = at k (recorded_of run).codecs in
+    let h = at k (recorded_of fits.received run).codecs in
     let s = state_after o (take place h) in
     let ends = map (λ (x : Pair). PoolOp.End x.resource x.reference false) (lets_go e s) in
     let ops : ops_of_entry k place run.pool ≡ called_for e s = fits.accounted.codecs k place ∙ ap (called_at o h place) is in
@@ -133,7 +141,7 @@ pub record HistoryLaws : Type 0 where
   pub kinds : OutputsAreOfKind
   pub lines : LegalRunsFit
   pub kept : ContentsAreKept
-  pub taken : ChunksAreTaken
+  pub given : ChunksAreGiven
 
 -- ---- codecs
 
@@ -157,13 +165,15 @@ traces_told laws script files w known k (c ∷ cs) (t ∷ ts) found legal h = (
 traces_told laws script files w known k _ _ found legal h = absurd legal
 
 -- the entry of a call has its step's arguments, and that step was made
-arguments_at : (script : ScriptData) (files : List (List Chunk)) (made : List CoderId) (run : Run) → Fits script files made run → (k p : ℕ) (e : Entry) → entry_in (recorded_of run) k p ≡ Some e → GetsArguments script files (recorded_of run) e × IsMade (recorded_of run) e
+arguments_at : (script : ScriptData) (files : List (List Chunk)) (made : List CoderId) (run : Run) (fits : Fits script files made run) (k p : ℕ) (e : Entry) → entry_in (recorded_of fits.received run) k p ≡ Some e
+    → GetsArguments script files (recorded_of fits.received run) e × IsMade (recorded_of fits.received run) e
 arguments_at script files made run fits k p (Entry.Call who x) is =
-    let by_place = (calls_by_places script (recorded_of run) fits.calls).only k p who x is in
+    let by_place = (calls_by_places script (recorded_of fits.received run) fits.calls).only k p who x is in
     (fits.arguments k p who x is, (by_place.0, by_place.1))
 arguments_at script files made run fits k p e is = (tt, tt)
 
-given_at : (script : ScriptData) (files : List (List Chunk)) (made : List CoderId) (run : Run) → Fits script files made run → (k p : ℕ) (e : Entry) → entry_in (recorded_of run) k p ≡ Some e → IsGiven script files (recorded_of run) (known_of run) k p e
+given_at : (script : ScriptData) (files : List (List Chunk)) (made : List CoderId) (run : Run) (fits : Fits script files made run) (k p : ℕ) (e : Entry) → entry_in (recorded_of fits.received run) k p ≡ Some e
+    → IsGiven script files (recorded_of fits.received run) (known_of run) k p e
 given_at script files made run fits k p e is =
     let calls = arguments_at script files made run fits k p e is in
     record { arguments = calls.0; pair = pair_found script files made run fits k p e is; made = calls.1 }
@@ -171,9 +181,9 @@ given_at script files made run fits k p e is =
 pub legal_told : HistoryLaws → (script : ScriptData) (files : List (List Chunk)) (made : List CoderId) (run : Run) → is_sound script ≡ true → AreWithin script files made → IsLegalRun script run → FitsInOrder script files made run → IsTold script files run
 legal_told laws script files made run sound within legal replayed =
     let fits = replayed.fits in
-    let w = recorded_of run in
+    let w = recorded_of fits.received run in
     let known = known_of run in
-    let found = all_found laws.kept laws.taken script files run legal.codecs fits.locals in
+    let found = legal_found laws.kept laws.given script files made run sound legal replayed in
     record {
       told = record {
         callers = legal.callers;

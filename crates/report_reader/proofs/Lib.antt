@@ -11,3 +11,7 @@ pub mod TableLaws
 pub mod StandingLaws
 pub mod LegalLaws
 pub mod CodecLaws
+pub mod PortLaws
+pub mod SoundLaws
+pub mod FoundLaws
+pub mod PlaceLaws

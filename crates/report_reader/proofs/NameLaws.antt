@@ -8,7 +8,7 @@ use Rattle.std.proofs.Math.Seq.{take-length}
 use Rattle.std.proofs.lemmas.Slice.Eq.{bytes_eq-Decides}
 use Rattle.script_types.specs.declared.script.{CodecItem.CodecItem, CallerItem.CallerItem, ScriptData.ScriptData}
 use Rattle.script_types.specs.Names.{is_name_byte, is_codec_name}
-use Rattle.script_types.specs.Sound.{is_sound, is_sound_caller, are_sound_callers}
+use Rattle.script_types.specs.Sound.{is_sound, is_sound_codec, is_sound_caller, are_sound_callers}
 use Rattle.script_types.specs.SoundLaws.{parts_of, codec_at}
 use Rattle.report_lines.specs.{Words.is_word_byte, Fits.AreNames}
 
@@ -59,8 +59,17 @@ names_differ name xs known i j p q e =
     let same : name a.item ≡ name b.item = rw (a.at, b.at) at e in
     grind (arith, named_apart name xs i j a.item (name b.item), named_apart name xs j i b.item (name a.item), a.at, b.at, a.new, b.new, same)
 
+codec_word : (before : List CodecItem) (c : CodecItem) → is_sound_codec before c ≡ true → list_all is_word_byte c.name ≡ true
+codec_word before c sound = word_bytes c.name (grind (arith, sound))
+
+codec_new : (before : List CodecItem) (c : CodecItem) → is_sound_codec before c ≡ true → list_any (λ z. bytes_eq z.name c.name) before ≡ false
+codec_new before c sound = grind (arith, sound)
+
 codec_named : (s : ScriptData) → is_sound s ≡ true → (i : ℕ) → i < length s.codecs → IsNamed CodecItem (λ x. x.name) s.codecs i
-codec_named s h i lt = let c = there s.codecs i lt in grind (arith, c.1, codec_at s i c.0 h c.1, word_bytes c.0.name)
+codec_named s h i lt =
+    let c = there s.codecs i lt in
+    let sound = codec_at s i c.0 h c.1 in
+    record { item = c.0; at = c.1; word = codec_word (take i s.codecs) c.0 sound; new = codec_new (take i s.codecs) c.0 sound }
 
 caller_from : (codecs : List CodecItem) (before cs : List CallerItem) (i : ℕ) (c : CallerItem) → are_sound_callers codecs before cs ≡ true → slice_get cs i ≡ Some c → is_sound_caller codecs (before ++ take i cs) c ≡ true
 caller_from codecs before (y ∷ ys) (suc i) c h is = rw (sym (append_assoc before (y ∷ []) (take i ys))) (caller_from codecs (before ++ y ∷ []) ys i c (grind (arith, h)) is)

@@ -1,21 +1,19 @@
 -- The results of a caller by its number, the medium of a variable by its step, and what a table has that keeps the first value of
 -- each key.
 use Rattle.std.proofs.Common.{ℕ, zero, suc, ◌≡◌, ◌+◌, ◌<◌, ◌≤◌, Bool, true, false, cond, List, [], ◌∷◌, length, get_or, Option, Some, None, is_some, refl, ap, sym, ◌∙◌, arith}
-use Rattle.std.specs.Prelude.{slice_get, option_and_then, option_map, unwrap_or, nat_lt, ◌==◌, ◌&&◌}
+use Rattle.std.specs.Prelude.{slice_get, option_and_then, option_map, unwrap_or, nat_lt, ◌==◌, ◌&&◌, ◌||◌}
 use Rattle.std.proofs.lemmas.Option.{slice_get_read, slice_get_past}
 use Rattle.std.specs.Option.{option_or}
 use Rattle.std.specs.BTreeMap.{BTreeMap, get, is_at}
 use Rattle.std.proofs.lemmas.Bool.{eqb-true, lt-ltb, le-ltb}
 use Rattle.std.proofs.lemmas.Bool.Decides.{nat_tests}
-use Rattle.codec_definitions.specs.declared.unit.Unit as media
 use Rattle.script_types.specs.declared.{script.ScriptData.ScriptData, steps.Step.Step, script.CallerItem.CallerItem}
 use Rattle.run_model.specs.declared.run.CallerTrace.{CallerTrace}
 use Rattle.run_model.specs.Recorded.{steps_of, steps_in}
-use Rattle.codec_model.specs.declared.entry.Content.{Content}
-use Rattle.media_accounts.specs.Contents.{content_by, content_before}
+use Rattle.media_accounts.specs.Contents.{Kept, From, kept_by, kept_before}
 use Rattle.report_text.specs.declared.result.StepResult.{StepResult}
-use Rattle.report_reader.specs.Arguments.{results_of, is_named, detached_by, is_detached}
-use Rattle.report_reader.specs.Tables.{key_cmp, is_before, first_named}
+use Rattle.report_reader.specs.Arguments.{results_of, detached_by, is_detached}
+use Rattle.report_reader.specs.Tables.{key_cmp, is_before, is_named, first_named}
 
 -- ---- results
 
@@ -45,29 +43,29 @@ steps_past c callers beyond = steps_are c callers ∙ rw (slice_get_past callers
 
 -- ---- media
 
-abbrev defined : List Step → (ℕ → Option media.Unit) → ℕ → Option Content
-defined steps taken j = option_and_then (content_by (content_before steps taken j) (taken j)) (slice_get steps j)
+abbrev pub defined : List Step → (ℕ → From) → ℕ → Option Kept
+defined steps from j = option_and_then (kept_by (kept_before steps from j) (from j)) (slice_get steps j)
 
 -- a variable has what its own step gives, once that was made
-contents_are : (steps : List Step) (taken : ℕ → Option media.Unit) (n j : ℕ) → content_before steps taken n j ≡ cond (nat_lt j n) (defined steps taken j) None
-contents_are steps taken zero j = grind (arith, nat_tests)
-contents_are steps taken (suc n) j = grind (arith, nat_tests, eqb-true j n, contents_are steps taken n j)
+kept_is : (steps : List Step) (from : ℕ → From) (n j : ℕ) → kept_before steps from n j ≡ cond (nat_lt j n) (defined steps from j) None
+kept_is steps from zero j = grind (arith, nat_tests)
+kept_is steps from (suc n) j = grind (arith, nat_tests, eqb-true j n, kept_is steps from n j)
 
-defined_at : (steps : List Step) (taken : ℕ → Option media.Unit) (n j : ℕ) → j < n → content_before steps taken n j ≡ defined steps taken j
-defined_at steps taken n j lt = rw (lt-ltb j n lt) at (contents_are steps taken n j)
+pub defined_at : (steps : List Step) (from : ℕ → From) (n j : ℕ) → j < n → kept_before steps from n j ≡ defined steps from j
+defined_at steps from n j lt = rw (lt-ltb j n lt) at (kept_is steps from n j)
 
 -- a step that was not made gives none
-pub undefined_at : (steps : List Step) (taken : ℕ → Option media.Unit) (n j : ℕ) → n ≤ j → content_before steps taken n j ≡ None
-undefined_at steps taken n j le = rw (le-ltb j n le) at (contents_are steps taken n j)
+pub undefined_at : (steps : List Step) (from : ℕ → From) (n j : ℕ) → n ≤ j → kept_before steps from n j ≡ None
+undefined_at steps from n j le = rw (le-ltb j n le) at (kept_is steps from n j)
 
-pub defined_read : (steps : List Step) (taken : ℕ → Option media.Unit) (n j : ℕ) (x : Step) → j < n → j < length steps → x ≡ get_or steps j x
-    → content_before steps taken n j ≡ content_by (content_before steps taken j) (taken j) x
-defined_read steps taken n j x lt there is =
-    defined_at steps taken n j lt ∙ ap (λ (o : Option Step). option_and_then (content_by (content_before steps taken j) (taken j)) o) (slice_get_read steps (length steps) j x refl there is)
+pub defined_read : (steps : List Step) (from : ℕ → From) (n j : ℕ) (x : Step) → j < n → j < length steps → x ≡ get_or steps j x
+    → kept_before steps from n j ≡ kept_by (kept_before steps from j) (from j) x
+defined_read steps from n j x lt there is =
+    defined_at steps from n j lt ∙ ap (λ (o : Option Step). option_and_then (kept_by (kept_before steps from j) (from j)) o) (slice_get_read steps (length steps) j x refl there is)
 
-pub defined_past : (steps : List Step) (taken : ℕ → Option media.Unit) (n j : ℕ) → j < n → length steps ≤ j → content_before steps taken n j ≡ None
-defined_past steps taken n j lt beyond =
-    defined_at steps taken n j lt ∙ ap (λ (o : Option Step). option_and_then (content_by (content_before steps taken j) (taken j)) o) (slice_get_past steps j beyond)
+pub defined_past : (steps : List Step) (from : ℕ → From) (n j : ℕ) → j < n → length steps ≤ j → kept_before steps from n j ≡ None
+defined_past steps from n j lt beyond =
+    defined_at steps from n j lt ∙ ap (λ (o : Option Step). option_and_then (kept_by (kept_before steps from j) (from j)) o) (slice_get_past steps j beyond)
 
 -- ---- tables
 
@@ -89,14 +87,21 @@ one_tells : (o : Option ℕ) (q d e : Bool) (n m : ℕ) → m ≤ n → ((i : �
 one_tells o q d e n m le below now less last = grind (arith, nat_tests, le, below, now, less, last)
 
 -- the first is one of them
-first_below : (f : ℕ → Option ℕ) (n j i : ℕ) → first_named f n j ≡ Some i → i < n
+first_below : (f : ℕ → List ℕ) (n j i : ℕ) → first_named f n j ≡ Some i → i < n
 first_below f zero j i h = absurd cc
 first_below f (suc n) j i h = grind (arith, first_below f n j, h)
+
+-- one name more of a list
+pub named_more : (o : Option ℕ) (a b q : Bool) (n : ℕ) → option_or (option_or o (cond (a && b) (Some n) None)) (cond (a && q) (Some n) None) ≡ option_or o (cond (a && (b || q)) (Some n) None)
+named_more (Some i) a b q n = refl
+named_more None false b q n = refl
+named_more None true true q n = refl
+named_more None true false q n = refl
 
 -- ---- the ends of variables
 
 module _ (steps : List Step) (results : List StepResult) where
-  abbrev named : ℕ → Option ℕ
+  abbrev named : ℕ → List ℕ
   named = detached_by steps results
 
   -- the first of n steps tells of any fewer whether one of them names the variable

@@ -1,5 +1,6 @@
 pub mod Form
 pub mod Arguments
+pub mod Places
 pub mod Tables
 pub mod Read
 pub mod Told

@@ -1,18 +1,21 @@
 // Entries get the arguments of their steps.
-ghost use Rattle.std.specs.Prelude.{◌≡◌, IfOk, Some, None, option_and_then, option_map, slice_get};
-ghost use Rattle.media_accounts.specs.Contents.{chunk_of_unit};
+ghost use Rattle.std.specs.Prelude.{ℕ, ◌≡◌, IfOk, Some, None, option_and_then, option_map, slice_get};
+ghost use Rattle.std.specs.Option.{option_or};
+ghost use Rattle.media_accounts.specs.Contents.{From, chunk_of_init, chunk_of_unit};
 ghost use Rattle.run_model.specs.Recorded.{steps_of};
+ghost use Rattle.report_reader.specs.declared.known.Known.{Known as KnownValue};
 ghost use Rattle.report_reader.specs.Arguments as spec;
 ghost use Rattle.report_reader.specs.Tables.{AreTables};
 
-use crate::clones::find_content;
+use crate::clones::{Place, find_bytes, find_content};
 use crate::known::{Known, is_given, taken_in};
 use crate::tables::{Tables, is_ended, pair_at};
+use bytes::Bytes;
 use codec_model::{Call, Content, Entry, Handed, HeldMedium, Pair};
 use coder_api::Unit;
 use report_text::{CallWord, EntryLine};
 use run_model::{find_chunk, steps_of};
-use script_types::{MediaStep, ScriptData, Step};
+use script_types::{InitData, InitShape, MediaStep, ScriptData, Step};
 use wc_base::{DomError, Ground, List, NoMemory, Who};
 use wc_chunk::Chunk;
 
@@ -47,20 +50,124 @@ fn chunk_taken(known: &Known, caller: u32, step: u32) -> Result<Option<Chunk>, N
     }
 }
 
-// The chunk of the variable that the step with this number of a caller defines.
+// The chunk that an init makes of these bytes, if it makes one.
+fn chunk_of_init(shape: &InitShape, bytes: Bytes) -> Option<Chunk>
+    ensures { result ≡ chunk_of_init shape.now bytes }
+{
+    match shape {
+        InitShape::Chunk {
+            key,
+            timestamp,
+            duration,
+        } => Some(Chunk {
+            key: *key,
+            timestamp: *timestamp,
+            duration: *duration,
+            bytes,
+        }),
+        _ => None,
+    }
+}
+
+// The bytes that an init of the step with this number has, of its caller's buffers.
+fn bytes_told(
+    script: &ScriptData,
+    tables: &Tables,
+    who: Who,
+    content: &InitData,
+) -> Result<Bytes, NoMemory>
+    ensures { (known : KnownValue) (from : ℕ → From) → AreTables script.now known tables.now
+        → IfOk result (λ b. b ≡ spec.bytes_told (steps_of script.now who.caller)
+        (spec.results_of known.callers who.caller) from who.step content.now) }
+{
+    match content {
+        InitData::Hex(bytes) => Ok(bytes.clone()?),
+        InitData::Buffer(variable) => {
+            if is_ended(tables, who.caller, who.step, variable.step) {
+                Ok(Bytes::new())
+            } else {
+                find_bytes(steps_of(script, who.caller), who.step, variable.step)
+            }
+        }
+    }
+}
+
+// The chunk that the init of a step makes, if it makes one.
+fn chunk_told(
+    script: &ScriptData,
+    tables: &Tables,
+    who: Who,
+    step: &Step,
+) -> Result<Option<Chunk>, NoMemory>
+    ensures { (known : KnownValue) (from : ℕ → From) → AreTables script.now known tables.now
+        → IfOk result (λ o. o ≡ spec.chunk_told (steps_of script.now who.caller)
+        (spec.results_of known.callers who.caller) from who.step step.now) }
+{
+    match step {
+        Step::Media(MediaStep::Buffered { bind: _, init }) => {
+            let bytes = bytes_told(script, tables, who, &init.content)?;
+            Ok(chunk_of_init(&init.shape, bytes))
+        }
+        _ => Ok(None),
+    }
+}
+
+// The chunk that the init of this step of a caller made, if it made one.
+fn chunk_made(
+    script: &ScriptData,
+    known: &Known,
+    tables: &Tables,
+    who: Who,
+) -> Result<Option<Chunk>, NoMemory>
+    requires { AreTables script.now known.now tables.now }
+    ensures { (from : ℕ → From) → IfOk result (λ o. o
+        ≡ spec.chunk_made_by (steps_of script.now who.caller)
+        (spec.results_of known.now.callers who.caller) from who.step) }
+{
+    if !is_given(known, who.caller, who.step) {
+        return Ok(None);
+    }
+    match steps_of(script, who.caller).get(who.step as usize) {
+        Some(step) => chunk_told(script, tables, who, step),
+        None => Ok(None),
+    }
+}
+
+// The chunk that this step of a caller took or made, if it did.
+fn chunk_given(
+    script: &ScriptData,
+    known: &Known,
+    tables: &Tables,
+    who: Who,
+) -> Result<Option<Chunk>, NoMemory>
+    requires { AreTables script.now known.now tables.now }
+    ensures { (from : ℕ → From) → IfOk result (λ o. o
+        ≡ option_or (option_and_then chunk_of_unit (spec.taken_in known.now who.caller who.step))
+        (spec.chunk_made_by (steps_of script.now who.caller)
+        (spec.results_of known.now.callers who.caller) from who.step)) }
+{
+    match chunk_taken(known, who.caller, who.step)? {
+        Some(chunk) => Ok(Some(chunk)),
+        None => chunk_made(script, known, tables, who),
+    }
+}
+
+// The chunk of the variable that this step of a caller defines.
 fn chunk_found(
+    script: &ScriptData,
     media: &[List<Chunk>],
     known: &Known,
-    steps: &[Step],
-    caller: u32,
-    step: u32,
+    tables: &Tables,
+    who: Who,
 ) -> Result<Option<Chunk>, NoMemory>
-    ensures { IfOk result (λ o. o
-        ≡ spec.chunk_found media.now steps.now (spec.taken_in known.now caller) step) }
+    requires { AreTables script.now known.now tables.now }
+    ensures { let from = spec.from_in script.now known.now (spec.depth_of known.now) who.caller in
+        IfOk result (λ o. o ≡ spec.chunk_found media.now (steps_of script.now who.caller)
+        (spec.results_of known.now.callers who.caller) from who.step) }
 {
-    match find_chunk(media, steps, step)? {
+    match find_chunk(media, steps_of(script, who.caller), who.step)? {
         Some(chunk) => Ok(Some(chunk)),
-        None => chunk_taken(known, caller, step),
+        None => chunk_given(script, known, tables, who),
     }
 }
 
@@ -91,7 +198,7 @@ fn handed_in(
     content: u32,
 ) -> Result<Option<Handed>, NoMemory>
     requires { AreTables script.now known.now tables.now }
-    ensures { IfOk result (λ o. o ≡ spec.handed_in known.now
+    ensures { IfOk result (λ o. o ≡ spec.handed_in script.now known.now
         (steps_of script.now who.caller) codec place who error content) }
 {
     if !is_given(known, who.caller, content) {
@@ -102,8 +209,13 @@ fn handed_in(
     }
     match error {
         None => {
-            let steps = steps_of(script, who.caller);
-            let content = find_content(known, steps, who.caller, who.step, content)?;
+            let at = Place {
+                left: tables.depth,
+                caller: who.caller,
+                end: who.step,
+                number: content,
+            };
+            let content = find_content(script, known, at)?;
             Ok(clone_of(content, pair_at(tables, codec, place)))
         }
         Some(DomError::InvalidState) => Ok(Some(Handed::Kept)),
@@ -135,7 +247,7 @@ fn call_of(
     step: &Step,
 ) -> Result<Option<Call>, NoMemory>
     requires { AreTables script.now known.now tables.now }
-    ensures { IfOk result (λ o. o ≡ spec.call_of media.now known.now
+    ensures { IfOk result (λ o. o ≡ spec.call_of script.now media.now known.now
         (steps_of script.now who.caller) codec place who word error step.now) }
 {
     match (word, step) {
@@ -143,8 +255,11 @@ fn call_of(
             Ok(Some(Call::Configure(config.copy()?)))
         }
         (CallWord::Decode, Step::Decode { on: _, chunk }) => {
-            let steps = steps_of(script, who.caller);
-            let chunk = chunk_found(media, known, steps, who.caller, chunk.step)?;
+            let defining = Who {
+                caller: who.caller,
+                step: chunk.step,
+            };
+            let chunk = chunk_found(script, media, known, tables, defining)?;
             Ok(decode_of(chunk))
         }
         (CallWord::Encode, Step::Media(MediaStep::Encode { on: _, content })) => {
@@ -194,7 +309,7 @@ fn call_at(
     requires { AreTables script.now known.now tables.now }
     ensures { let steps = steps_of script.now who.caller in
         IfOk result (λ o. o ≡ option_and_then
-        (spec.call_of media.now known.now steps codec place who word error)
+        (spec.call_of script.now media.now known.now steps codec place who word error)
         (slice_get steps who.step)) }
 {
     match steps_of(script, who.caller).get(who.step as usize) {

@@ -6,7 +6,7 @@ ghost use Rattle.report_reader.specs.Arguments as spec;
 
 use coder_api::Unit;
 use run_model::{CallerTrace, StepResult};
-use wc_base::List;
+use wc_base::{List, Who};
 use wc_pool::PoolEntry;
 
 /// What a report shows of arguments: the results of each caller, the outputs of each codec, and the history of the pool of
@@ -44,6 +44,7 @@ fn gives(answer: &StepResult) -> bool
 {
     match answer {
         StepResult::Unit { .. } => true,
+        StepResult::From { who: _ } => true,
         _ => is_ok(answer),
     }
 }
@@ -99,5 +100,15 @@ pub fn taken_in(known: &Known, caller: u32, step: u32) -> Option<&Unit>
     match results_at(known.callers.as_slice(), caller as usize).get(step as usize) {
         Some(answer) => output_of(known.outputs.as_slice(), answer),
         None => None,
+    }
+}
+
+/// The step whose post this step of a caller received, if it received one.
+pub fn poster_in(known: &Known, caller: u32, step: u32) -> Option<Who>
+    ensures { result ≡ spec.poster_of (slice_get (spec.results_of known.now.callers caller) step) }
+{
+    match results_at(known.callers.as_slice(), caller as usize).get(step as usize) {
+        Some(StepResult::From { who }) => Some(*who),
+        _ => None,
     }
 }

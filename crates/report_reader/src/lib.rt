@@ -16,10 +16,12 @@ mod run;
 mod tables;
 mod trace;
 
+pub use compare::first_difference;
 pub use fault::ReportFault;
 pub use forms::{Forms, Section};
 pub use known::Known;
 pub use laws::{
     faults_are_one, legal_runs_are_told, names_of_sound_scripts, reports_determine_runs,
 };
+pub use page::report_text;
 pub use read::read_report;

@@ -1,27 +1,29 @@
 // Tables in which what encodes were given is looked up.
-ghost use Rattle.std.specs.Prelude.{ℕ, ◌≡◌, ◌==◌, ◌&&◌, IfOk, OnOk, Some, None, length, if◌then◌else◌};
+ghost use Rattle.std.specs.Prelude.{ℕ, ◌≡◌, ◌==◌, ◌&&◌, [], ◌∷◌, IfOk, OnOk, Some, None, length, if◌then◌else◌};
 ghost use Rattle.std.specs.BTreeMap.{get};
 ghost use Rattle.std.specs.Option.{option_or};
 ghost use Rattle.media_accounts.specs.Accounts.{is_by_entry};
+ghost use Rattle.media_variables.specs.Variables.{steps_in};
 ghost use Rattle.run_model.specs.Recorded.{steps_of};
 ghost use Rattle.report_reader.specs.Arguments as spec;
-ghost use Rattle.report_reader.specs.Tables.{key_cmp, first_named, end_of, is_before, AreTables};
+ghost use Rattle.report_reader.specs.Tables.{key_cmp, is_named, named_at, first_named, end_of, is_before, AreTables};
 
 use crate::known::{Known, is_ok, results_at};
 use codec_model::Pair;
 use run_model::{CallerTrace, StepResult};
-use script_types::{MediaStep, ScriptData, Step};
+use script_types::{MediaStep, ScriptData, Step, Variable};
 use std::alloc::Global;
 use std::collections::BTreeMap;
 use wc_base::{By, NoMemory};
 use wc_pool::{PoolEntry, PoolOp};
 
-/// The first clone that an entry of a codec made, by the codec's number and the entry's place; and the first step that
-/// detached the data of a variable, by the numbers of its caller and of the step that defines it.
+/// The first clone that an entry of a codec made, by the codec's number and the entry's place; the first step that
+/// detached the data of a variable, by the numbers of its caller and of the step that defines it; and how many results there are.
 #[derive(Debug, PartialEq, Drop)]
 pub struct Tables {
     pub clones: BTreeMap<(u64, u64), Pair>,
     pub ends: BTreeMap<(u64, u64), u64>,
+    pub depth: u64,
 }
 
 // This value for the key, unless it has one.
@@ -89,30 +91,77 @@ fn clones_of(alloc: Global, pool: &[PoolEntry]) -> Result<BTreeMap<(u64, u64), P
     Ok(clones)
 }
 
-// The variable whose reference a step with this result handed on or ended, by the step that defines it.
-fn detached_in(step: &Step, answer: &StepResult) -> Option<u32>
-    ensures { result ≡ spec.detached_in step.now answer.now }
+// That this step detached the variables of a list, unless an earlier one did.
+#[tactic(auto, using(crate::proofs::TableLaws::named_more))]
+fn put_listed(
+    ends: &mut BTreeMap<(u64, u64), u64>,
+    caller: usize,
+    number: usize,
+    listed: &[Variable],
+) -> Result<(), NoMemory>
+    ensures { OnOk result ((k j : ℕ) → get key_cmp ends.new (k, j)
+        ≡ option_or (get key_cmp ends.old (k, j))
+        (named_at caller k (is_named j (steps_in listed.now)) number)) }
+{
+    let mut rest = listed;
+    while let [variable, more @ ..] = rest {
+        put_first(ends, (caller as u64, variable.step as u64), number as u64)?;
+        rest = more;
+    }
+    Ok(())
+}
+
+// That this step detached a variable, unless an earlier one did.
+fn put_named(
+    ends: &mut BTreeMap<(u64, u64), u64>,
+    caller: usize,
+    number: usize,
+    variable: &Variable,
+) -> Result<(), NoMemory>
+    ensures { OnOk result ((k j : ℕ) → get key_cmp ends.new (k, j)
+        ≡ option_or (get key_cmp ends.old (k, j))
+        (named_at caller k (is_named j (variable.now.step ∷ [])) number)) }
+{
+    put_first(ends, (caller as u64, variable.step as u64), number as u64)
+}
+
+// That this step detached what it hands on or ends, unless an earlier one did.
+fn put_detached(
+    ends: &mut BTreeMap<(u64, u64), u64>,
+    caller: usize,
+    number: usize,
+    step: &Step,
+) -> Result<(), NoMemory>
+    ensures { OnOk result ((k j : ℕ) → get key_cmp ends.new (k, j)
+        ≡ option_or (get key_cmp ends.old (k, j))
+        (named_at caller k (is_named j (spec.detached_in step.now)) number)) }
 {
     match step {
-        Step::Media(MediaStep::Transfer { of, bind: _ }) => named_if(is_ok(answer), of.step),
-        Step::Media(MediaStep::CloseData { of }) => named_if(is_ok(answer), of.step),
-        _ => None,
+        Step::Media(MediaStep::Transfer { of, bind: _ }) => put_named(ends, caller, number, of),
+        Step::Media(MediaStep::CloseData { of }) => put_named(ends, caller, number, of),
+        Step::Media(MediaStep::Post { to: _, content }) => put_named(ends, caller, number, content),
+        Step::Media(MediaStep::Buffered { bind: _, init }) => {
+            put_listed(ends, caller, number, init.transfer.as_slice())
+        }
+        _ => Ok(()),
     }
 }
 
-fn named_if(named: bool, step: u32) -> Option<u32>
-    ensures { result ≡ (if named then Some step else None) }
-{
-    if named { Some(step) } else { None }
-}
-
-// The variable whose reference the step with this number handed on or ended.
-fn detached_by(steps: &[Step], results: &[StepResult], number: usize) -> Option<u32>
-    ensures { result ≡ spec.detached_by steps.now results.now number }
+// That the step with this number detached what it handed on or ended, unless an earlier one did.
+fn put_step(
+    ends: &mut BTreeMap<(u64, u64), u64>,
+    caller: usize,
+    number: usize,
+    steps: &[Step],
+    results: &[StepResult],
+) -> Result<(), NoMemory>
+    ensures { OnOk result ((k j : ℕ) → get key_cmp ends.new (k, j)
+        ≡ option_or (get key_cmp ends.old (k, j))
+        (named_at caller k (is_named j (spec.detached_by steps.now results.now number)) number)) }
 {
     match (steps.get(number), results.get(number)) {
-        (Some(step), Some(answer)) => detached_in(step, answer),
-        _ => None,
+        (Some(step), Some(answer)) if is_ok(answer) => put_detached(ends, caller, number, step),
+        _ => Ok(()),
     }
 }
 
@@ -128,9 +177,7 @@ fn put_ends(
         (end_of caller steps.now results.now (length steps.now) k j)) }
 {
     for number in 0..steps.len() {
-        if let Some(of) = detached_by(steps, results, number) {
-            put_first(ends, (caller as u64, of as u64), number as u64)?;
-        }
+        put_step(ends, caller, number, steps, results)?;
     }
     Ok(())
 }
@@ -163,13 +210,34 @@ fn ends_of(
     Ok(ends)
 }
 
+// How many results callers have.
+fn results_in(callers: &[CallerTrace]) -> Result<u64, NoMemory>
+    ensures { IfOk result (λ n. n ≡ spec.results_in callers.now) }
+{
+    let mut count: u64 = 0;
+    let mut rest = callers;
+    while let [caller, more @ ..] = rest {
+        let Some(sum) = count.checked_add(caller.results.len() as u64) else {
+            return Err(NoMemory);
+        };
+        count = sum;
+        rest = more;
+    }
+    Ok(count)
+}
+
 /// The tables of what a report shows.
 pub fn tables_of(alloc: Global, script: &ScriptData, known: &Known) -> Result<Tables, NoMemory>
     ensures { IfOk result (AreTables script.now known.now) }
 {
     let clones = clones_of(alloc, known.pool.as_slice())?;
     let ends = ends_of(alloc, script, known.callers.as_slice())?;
-    Ok(Tables { clones, ends })
+    let depth = results_in(known.callers.as_slice())?;
+    Ok(Tables {
+        clones,
+        ends,
+        depth,
+    })
 }
 
 /// The resource and the reference of the first clone that a codec made by its entry at this place.

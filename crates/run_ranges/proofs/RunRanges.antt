@@ -1,6 +1,6 @@
 -- The lines of a legal run that fits its script are within their types, and name callers and codecs that are there.
-use Rattle.std.proofs.Common.{◌≡◌, ℕ, zero, suc, ◌+◌, ◌*◌, ◌<◌, ◌≤◌, ◌^◌, ◌&&◌, true, List, [], ◌∷◌, length, map, take, Option, Some, None, refl, ap, sym, subst, ◌∙◌, arith}
-use Rattle.std.specs.Prelude.{nat_le, option_map, option_and_then, unwrap_or}
+use Rattle.std.proofs.Common.{◌≡◌, ℕ, zero, suc, ◌+◌, ◌*◌, ◌<◌, ◌≤◌, ◌^◌, ◌&&◌, true, List, [], ◌∷◌, length, map, take, Option, Some, refl, ap, sym, subst, ◌∙◌, arith}
+use Rattle.std.specs.Prelude.{nat_le, unwrap_or}
 use Rattle.std.specs.List.{AllByRecursion, zip, slice_get, sum_by}
 use Rattle.std.proofs.Math.Nat.{mul-le-mul}
 use Rattle.std.proofs.lemmas.Bool.{and_parts, leb-true}
@@ -14,8 +14,8 @@ use Rattle.coder_api.specs.declared.slot.{SlotEntry.SlotEntry, SlotOp.SlotOp}
 use Rattle.codec_model.specs.declared.entry.{Opening.Opening, Call.Call, Entry.Entry, Outcome.Outcome, Shown.Shown}
 use Rattle.codec_model.specs.Replay.{State, opening_state, step as legal_step, replay, replay_from}
 use Rattle.codec_model.specs.{Held.HeldStays, Facts.IsNeverStuck, Facts.Always}
-use Rattle.script_types.specs.declared.{script.ScriptData.ScriptData, script.CodecItem.CodecItem, steps.MediaStep.MediaStep, steps.Step.Step}
-use Rattle.script_types.specs.Names.{is_name, names_codec, called, taken_from}
+use Rattle.script_types.specs.declared.{script.ScriptData.ScriptData, script.CodecItem.CodecItem, steps.Step.Step}
+use Rattle.script_types.specs.Names.{is_name, names_codec}
 use Rattle.script_types.specs.Sound.{is_sound, is_sound_order, most_order, most_codecs, most_callers, most_steps}
 use Rattle.script_types.specs.SoundLaws.{parts_of, codec_at, step_at, named_within, taken_is_named, few_steps}
 use Rattle.report_text.specs.declared.{result.StepResult.StepResult, line.Line.Line}
@@ -23,12 +23,12 @@ use Rattle.run_model.specs.declared.run.CallerTrace.{CallerTrace}
 use Rattle.run_model.specs.declared.run.CodecTrace.{CodecTrace}
 use Rattle.run_model.specs.declared.run.Run.{Run}
 use Rattle.trace_text.specs.Report.{lines_from, result_lines, caller_lines, entry_lines, codec_lines, pool_lines, slot_lines, lines_of}
-use Rattle.media_variables.specs.Variables.{Medium, Came, chunk_in}
+use Rattle.media_variables.specs.Variables.{Received}
 use Rattle.media_accounts.specs.Accounts.{called_at, lent_at}
-use Rattle.run_model.specs.Recorded.{Recorded, opening_at, output_at, steps_of, chunk_at}
-use Rattle.run_model.specs.Follow.{order_items}
+use Rattle.run_model.specs.Recorded.{Recorded, opening_at, steps_of}
+use Rattle.run_model.specs.Follow.{record_of, order_items}
 use Rattle.run_model.specs.FitsLaws.{look_of, calls_by_places, order_by_places}
-use Rattle.run_model.specs.Fits.{recorded_of, mark_of, result_in, entry_in, step_in, CallsAreIn, LookShows, LooksAreIn, IsMediaAnswer, IsLocalAnswer, LocalsAreIn, IsResultBy, IsResultOf, taken_by, variables_at, came_at, brought_to, made_steps, lends_in, FitsInOrder, IsLegalTrace, AreLegalTraces, IsLegalRun}
+use Rattle.run_model.specs.Fits.{recorded_of, mark_of, result_in, entry_in, step_in, CallsAreIn, LookShows, LooksAreIn, brought_to, made_steps, lends_in, FitsInOrder, IsLegalTrace, AreLegalTraces, IsLegalRun}
 use Rattle.codec_accounts.specs.{ListLaws.get_some, Owed.at, Codec.state_after, Registry.BoxesAccounted, Registry.EndSays}
 use Rattle.codec_accounts.specs.Calls as mark
 use Rattle.codec_accounts.specs.SlotPlaces.{IsOfCodec, cause_there}
@@ -39,19 +39,19 @@ use Rattle.run_ranges.specs.Counts.{traces_count, caller_of_step, all_from}
 use Rattle.run_ranges.specs.Ranges.{AreWithin}
 use Rattle.run_ranges.proofs.{Cases.by_option, Cases.by_default, CodeRanges.CodesAreBytes, UnitRanges.judge, TakenRanges.IsTakeUpTo, TakenRanges.takes_small, TakenRanges.call_fits}
 use Rattle.run_ranges.proofs.PoolRanges.{held_up_to, ops_fit, IsMadeBy, entry_made}
-use Rattle.run_ranges.proofs.MediaRanges.{IsChunkThere, IsOutputWithin, IsAnswerWithin, FitsTaken, size_small_of, AreSteps, came_answers, media_fits}
 use Rattle.run_ranges.proofs.EntryRanges.{IsOutcomeWithin, IsEntryWithin, lines_within}
-use Rattle.run_ranges.proofs.CourseRanges.{IsOwnEntry, IsByUpTo, IsOpUpTo, by_up, chunk_made, contents_within, holds_own, output_own, course_up}
+use Rattle.run_ranges.proofs.CourseRanges.{IsOwnEntry, IsByUpTo, IsOpUpTo, by_up, holds_own, course_up}
 
 -- ---- what was recorded
 
--- no more of anything than the order has items, and no more in the pool than each item adds
-pub record IsRecordedUpTo (most : ℕ) (w : Recorded) : Type 0 where
+-- no more of anything than the order has items, and no more in the pool than each item adds; what callers' own steps answered fits
+pub record IsRecordedUpTo (s : ScriptData) (most : ℕ) (w : Recorded) : Type 0 where
   entries : (k : ℕ) → length (at k w.codecs) ≤ most_order
   slots : length w.slots ≤ 2 * most_order
   pool : length w.pool < 2 ^ 64
   own : (k p : ℕ) (e : Entry) → entry_in w k p ≡ Some e → IsOwnEntry e
   ops : (i : ℕ) (e : SlotEntry) → slice_get w.slots i ≡ Some e → IsByUpTo most_order e.by × IsOpUpTo most e.op
+  answers : (c j : ℕ) (r : StepResult) → result_in w c j ≡ Some r → mark_of r ≡ mark.Local → FitsResult s r
 
 -- what was recorded has the script's callers and codecs, which are few, and takes that are numbered
 pub record IsKnown (s : ScriptData) (made : List CoderId) (w : Recorded) : Type 0 where
@@ -60,28 +60,32 @@ pub record IsKnown (s : ScriptData) (made : List CoderId) (w : Recorded) : Type 
   few_callers : length s.callers ≤ most_callers
   few_codecs : length s.codecs ≤ most_codecs
   takes : (k p : ℕ) (who : Who) (x : Call) → entry_in w k p ≡ Some (Entry.Call who x) → IsTakeUpTo p x
-  recorded : IsRecordedUpTo (length made) w
+  recorded : IsRecordedUpTo s (length made) w
   open recorded use *
 
-known : CodesAreBytes → HeldStays → (s : ScriptData) (media : List (List Chunk)) (made : List CoderId) (run : Run) → is_sound s ≡ true → AreWithin s media made → IsLegalRun s run → FitsInOrder s media made run → IsKnown s made (recorded_of run)
-known laws stays s media made run sound within legal fits =
+known : CodesAreBytes → HeldStays → (s : ScriptData) (media : List (List Chunk)) (made : List CoderId) (got : ℕ → ℕ → Option Received) (run : Run) → is_sound s ≡ true → AreWithin s media made → IsLegalRun s run → FitsInOrder s media made run → IsKnown s made (recorded_of got run)
+known laws stays s media made got run sound within legal fits =
     let parts = parts_of s sound in
     let few = and_parts (nat_le (length s.codecs) most_codecs) _ parts.few in
     let order : length (order_items s) ≤ most_order =
     by_option (λ o. is_sound_order (length s.codecs) s.callers o ≡ true → length (unwrap_or o []) ≤ most_order) s.order (λ fine. omega arith) (λ items is fine. leb-true (length items) most_order (and_parts (nat_le (length items) most_order) _ fine).0) parts.order in
-    let up = course_up laws stays s media made fits.follows.course within fits.follows.follows in
+    let course = fits.follows.course in
+    let both = course_up laws stays s media made course sound within fits.follows.follows in
+    let up = both.0 in
+    let is : recorded_of got run ≡ record_of got course = ap (λ (w : Recorded). record w { received = got }) fits.follows.is_recorded in
     record {
       callers = length-map run.callers _ ∙ legal.callers;
       codecs = length-map run.codecs _ ∙ traces_count s.codecs run.codecs legal.codecs;
       few_callers = leb-true (length s.callers) most_callers (and_parts (nat_le (length s.callers) most_callers) (nat_le (sum_by (λ c. length c.steps) s.callers) most_steps) few.1).0;
       few_codecs = leb-true (length s.codecs) most_codecs few.0;
       takes = takes_small s.codecs run.codecs legal.codecs;
-      recorded = subst (IsRecordedUpTo (length made)) (sym fits.follows.is_recorded) (record {
+      recorded = subst (IsRecordedUpTo s (length made)) (sym is) (record {
         entries = λ k. omega (arith, up.few k, order);
         slots = omega (arith, up.slots.long_at_most, order);
         pool = omega (arith, up.media, order, mul-le-mul order order);
         own = up.own.entries;
         ops = λ i e is. (by_up (length (order_items s)) most_order e.by order (up.slots.ops i e is).0, (up.slots.ops i e is).1);
+        answers = both.1.answers;
       });
     }
 
@@ -97,18 +101,6 @@ replay_up (e ∷ es) s t n r up = option_and_then_some (replay_from es) (legal_s
 
 size_small : (o : Opening) (h : List Entry) → (state_after o h).control.size ≤ length h
 size_small o h = by_default (λ t. t.control.size ≤ length h) (replay o h) (opening_state o) (omega arith) (λ t is. omega (arith, (replay_up h (opening_state o) t 0 is (opening_up o)).size))
-
--- copies and sizes are answers of steps on media that name no codec
-media_answer_fits : (s : ScriptData) (w : Recorded) (vs : List (Option Medium)) (came : Option Came) (who : Who) (m : MediaStep) (r : StepResult) (taken calls : Option ℕ) → mark_of r ≡ mark.Local → IsAnswerWithin s came → IsResultBy s w who taken calls r → IsMediaAnswer vs came taken calls m r → FitsResult s r
-media_answer_fits s w vs came who m r None None local within of h = media_fits s came r within h
-media_answer_fits s w vs came who m StepResult.Absent taken calls local within of h = tt
-media_answer_fits s w vs came who m r taken calls local within of h = grind arith
-
-local_fits : (s : ScriptData) (media : List (List Chunk)) (w : Recorded) (vs : List (Option Medium)) (came : Option Came) (who : Who) (x : Step) (r : StepResult) → mark_of r ≡ mark.Local → IsAnswerWithin s came → IsResultOf s w who x r → IsLocalAnswer s media vs came who.caller x r → FitsResult s r
-local_fits s media w vs came who (Step.Media m) r local within of h = media_answer_fits s w vs came who m r (taken_from (Step.Media m)) (called (Step.Media m)) local within of h
-local_fits s media w vs came who x (StepResult.Local error) local within of h = tt
-local_fits s media w vs came who x StepResult.Absent local within of h = tt
-local_fits s media w vs came who x r local within of h = grind arith
 
 op_fits : (most : ℕ) (op : SlotOp) → most < 2 ^ 64 → IsOpUpTo most op → FitsOp op
 op_fits most (SlotOp.Refused id out all) few up = (omega (arith, few, up.0), omega (arith, few, up.1))
@@ -167,32 +159,15 @@ module _ (laws : CodesAreBytes) (s : ScriptData) (media : List (List Chunk)) (ma
   look_fits c j l m x (StepResult.NoUnit k n) is looks seen shows = (codec_named c j k x is (taken_is_named x k shows.0), omega (arith, seen k n refl, h.entries k))
   look_fits c j l m x r is looks seen shows = grind arith
 
-  -- what a caller's step took
-  taken_known : (c j : ℕ) (o : Option StepResult) → result_in w c j ≡ o → IsOutputWithin (taken_by s w o) × FitsTaken s (taken_by s w o)
-  taken_known c j (Some (StepResult.Unit k p n)) is =
-      by_option (λ o. IsOutputWithin (option_map (λ u. record { unit = u; answer = StepResult.Unit k p n }) o) × FitsTaken s (option_map (λ u. record { unit = u; answer = StepResult.Unit k p n }) o)) (output_at (opening_at s k) (at k w.codecs) n) (tt, tt)
-      (λ u found. (output_own laws (opening_at s k) (at k w.codecs) (λ q e there. h.own k q e there) n u found, take_fits c j k p n is))
-  taken_known c j o is = (tt, tt)
-
-  -- what is known of a script's steps on media
-  steps_within : AreSteps s (steps_of s) (brought_to s media w)
-  steps_within = record {
-    contents = λ c j x is. contents_within s media made c j x within is;
-    copied = λ c j x. by_option (λ o. IsChunkThere (option_and_then (chunk_at media (steps_of s c)) o)) (chunk_in x) tt (λ i is. chunk_made s media made within c i);
-    outputs = λ c j x. (taken_known c j (result_in w c j) refl).0;
-    told = λ c j x. (taken_known c j (result_in w c j) refl).1;
-    sizes = λ c j x is. (let caller = caller_of_step s.callers c j (Step.Media x) is in size_small_of s.codecs (take j caller.0.steps) x (step_at s c j caller.0 (Step.Media x) sound caller.1 caller.2));
-  }
-
-  results_fit : LooksAreIn s w → LocalsAreIn s media w → (c j : ℕ) (r : StepResult) → result_in w c j ≡ Some r → FitsResult s r
-  results_fit looks locals c j (StepResult.Call k p error) is = call_known c j k p error is
-  results_fit looks locals c j (StepResult.Unit k p n) is = take_fits c j k p n is
-  results_fit looks locals c j r is =
+  results_fit : LooksAreIn s w → (c j : ℕ) (r : StepResult) → result_in w c j ≡ Some r → FitsResult s r
+  results_fit looks c j (StepResult.Call k p error) is = call_known c j k p error is
+  results_fit looks c j (StepResult.Unit k p n) is = take_fits c j k p n is
+  results_fit looks c j r is =
       let step = calls.made c j r is in
       elim (mark_of r) as (λ m. mark_of r ≡ m → FitsResult s r) [
         | mark.Call k p ↦ λ its. absurd cc
         | mark.Look k n ↦ λ its. look_fits c j k n step.0 r step.1 its (λ l m same. (order_by_places w looks.climbs).within c j l m r is same) (looks.shows c j step.0 r step.1 is)
-        | mark.Local ↦ λ its. local_fits s media w (variables_at s media w c j) (came_at s media w c j) (record { caller = c; step = j }) step.0 r its (came_answers s (steps_of s) (brought_to s media w) w.pool c j (steps_within)) step.2 (locals c j step.0 r step.1 is)
+        | mark.Local ↦ λ its. h.answers c j r is its
       ] refl
 
   -- ---- entries
@@ -262,15 +237,16 @@ saturations s sound i c is =
 pub lines_fit : CodesAreBytes → HeldStays → Always IsNeverStuck → LiveAreNumbered → (s : ScriptData) (media : List (List Chunk)) (made : List CoderId) (run : Run) → is_sound s ≡ true → AreWithin s media made → IsLegalRun s run → FitsInOrder s media made run → AllByRecursion (FitsLine s) (lines_of run)
 lines_fit laws stays always numbered s media made run sound within legal replayed =
     let fits = replayed.fits in
-    let w = recorded_of run in
-    let h = known laws stays s media made run sound within legal replayed in
+    let got = fits.received in
+    let w = recorded_of got run in
+    let h = known laws stays s media made got run sound within legal replayed in
     let count = traces_count s.codecs run.codecs legal.codecs in
     let callers = each_lines (FitsLine s) caller_lines 0 run.callers (λ c t is. (
     let there = slice_get_within run.callers c t is in
     let rs = at_item (λ (x : CallerTrace). x.results) run.callers c t is in (
       (omega (arith, there, legal.callers), omega (arith, there, legal.callers, h.few_callers)),
       each_lines (FitsLine s) result_lines 0 t.results
-          (λ j r got. (let here : result_in w c j ≡ Some r = rw rs got in ((omega (arith, (step_known laws s media made w sound within h fits.calls (record { caller = c; step = j }) r here).1), results_fit laws s media made w sound within h fits.calls fits.looks fits.locals c j r here), tt))),
+          (λ j r got. (let here : result_in w c j ≡ Some r = rw rs got in ((omega (arith, (step_known laws s media made w sound within h fits.calls (record { caller = c; step = j }) r here).1), results_fit laws s media made w sound within h fits.calls fits.looks c j r here), tt))),
     ))) in
     let codecs = each_lines (FitsLine s) codec_lines 0 run.codecs (λ k t is. (
     let there = slice_get_within run.codecs k t is in

@@ -14,6 +14,11 @@ use Rattle.script_types.specs.declared.script.OrderItem.{OrderItem}
 use Rattle.script_types.specs.declared.script.OrderItem.TheVariants as item
 use Rattle.script_types.specs.declared.script.ScriptData.{ScriptData}
 use Rattle.script_types.specs.declared.steps.PictureInit.{PictureInit}
+use Rattle.script_types.specs.declared.steps.BufferedInit.{BufferedInit}
+use Rattle.script_types.specs.declared.steps.InitData.{InitData}
+use Rattle.script_types.specs.declared.steps.InitData.TheVariants as init_data
+use Rattle.script_types.specs.declared.steps.InitShape.{InitShape}
+use Rattle.script_types.specs.declared.steps.InitShape.TheVariants as init_shape
 use Rattle.script_types.specs.declared.steps.SoundInit.{SoundInit}
 use Rattle.script_types.specs.declared.steps.MediaStep.TheVariants as media_step
 use Rattle.script_types.specs.declared.steps.Step.{Step}
@@ -56,15 +61,28 @@ IsShapeWithin s = (s.frames < 2 ^ 32) × (mag s.timestamp < 2 ^ 63)
 abbrev pub IsPictureWithin : PictureShape → Type 0
 IsPictureWithin s = (mag s.timestamp < 2 ^ 63) × FitsOrAbsent s.duration
 
+-- what an init says apart from its data
+abbrev pub IsInitWithin : InitShape → Type 0
+IsInitWithin (init_shape.Chunk key timestamp duration) = (mag timestamp < 2 ^ 63) × FitsOrAbsent duration
+IsInitWithin (init_shape.Sound shape) = IsShapeWithin shape
+IsInitWithin (init_shape.Picture shape) = IsPictureWithin shape
+
+-- its data, where that is no buffer
+abbrev pub IsDataWithin : InitData → Type 0
+IsDataWithin (init_data.Hex bytes) = IsBytes bytes
+IsDataWithin (init_data.Buffer v) = Unit {0}
+
 -- The script's moments, configs, audio data and chunks are within their types, and those of its chunk files are: chunks, audio
 -- data and frames hold bytes and have a timestamp of 64 bits, audio data a number of frames of 32, and a frame a duration of 64, if
--- one. There are fewer boxes than 2^64.
+-- one. So are the inits that name buffers. A buffer holds bytes, fewer than 2^64, and there are fewer boxes than that.
 pub record AreWithin (s : ScriptData) (media : List (List Chunk)) (made : List CoderId) : Type 0 where
   pub moments : (i : ℕ) (x : OrderItem) → slice_get (order_items s) i ≡ Some x → IsMoment x
   pub configs : (c j on : ℕ) (config : Config) → slice_get (steps_of s c) j ≡ Some (step.Configure on config) → IsConfigWithin config
   pub chunks : (c j : ℕ) (x : Step) (chunk : Chunk) → slice_get (steps_of s c) j ≡ Some x → chunk_by media x ≡ Some chunk → IsChunkWithin chunk
   pub sounds : (c j : ℕ) (bind : List ℕ) (init : SoundInit) → slice_get (steps_of s c) j ≡ Some (step.Media (media_step.Audio bind (Some init))) → IsShapeWithin init.shape × IsBytes init.content
   pub frames : (c j : ℕ) (bind : List ℕ) (init : PictureInit) → slice_get (steps_of s c) j ≡ Some (step.Media (media_step.Frame bind (Some init))) → IsPictureWithin init.shape × IsBytes init.content
+  pub buffers : (c j : ℕ) (bind bytes : List ℕ) → slice_get (steps_of s c) j ≡ Some (step.Media (media_step.Buffer bind bytes)) → IsBytes bytes × (length bytes < 2 ^ 64)
+  pub inits : (c j : ℕ) (bind : List ℕ) (i : BufferedInit) → slice_get (steps_of s c) j ≡ Some (step.Media (media_step.Buffered bind i)) → IsInitWithin i.shape × IsDataWithin i.content
   pub boxes : length made < 2 ^ 64
 
 -- the lines of a legal replay of a script in which nothing is at fault fit the script

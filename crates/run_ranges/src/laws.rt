@@ -8,7 +8,8 @@ use wc_pool::references_are_apart;
 /// Law: each line of a legal replay of a script in which nothing is at fault fits that script: it names callers
 /// and codecs that are there, and its numbers and bytes are within their types. That holds where the script's moments,
 /// rates, channels, block sizes, sizes, counts of frames, timestamps and durations are within theirs, those of its chunk
-/// files too, what its chunks, its audio data and its frames hold is bytes, and the boxes are fewer than 2^64 (`AreWithin`).
+/// files too, what its chunks, its audio data, its frames and its buffers hold is bytes, and the boxes are fewer than 2^64
+/// (`AreWithin`).
 pub fn legal_runs_fit()
     ensures { LegalRunsFit }
 {

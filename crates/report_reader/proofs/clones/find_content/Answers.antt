@@ -1,25 +1,21 @@
 use Rattle.std.proofs.Common.{sym, ◌∙◌, arith}
-use Rattle.media_accounts.specs.Contents.{content_before}
-use Rattle.report_reader.specs.Arguments.{taken_in}
-use Rattle.report_reader.proofs.TableLaws.{defined_read, defined_past, undefined_at}
+use Rattle.report_reader.proofs.PlaceLaws.{place_read, place_past, place_undefined}
 use Rattle.report_reader.proofs.clones.find_content.Goals as goal
 
 pub returns-in_default : goal.returns-in_default
-returns-in_default c = sym (defined_past c.args.steps.now _ c.loop-number.end c.loop-number.number c.loop-number-test.true c.in_default.ensures.lookup.3) ∙ c.loop-number.invariant
+returns-in_default c = sym (place_past c.args.script.now c.args.known.now c.loop-at.at c.loop-at-test.true (rw c.steps_of.ensures at c.in_default.ensures.lookup.3)) ∙ c.loop-at.invariant
 
-pub loop-number-preserved : goal.loop-number-preserved
-loop-number-preserved c =
-    let taken = taken_in c.args.known.now c.args.caller in
+pub loop-at-preserved : goal.loop-at-preserved
+loop-at-preserved c =
     let read = c.in-Some.ensures.lookup in
-    let here = defined_read c.args.steps.now taken c.loop-number.end c.loop-number.number c.in-Some.defining.now c.loop-number-test.true read.3.0 read.1 in
-    sym (c.in-Some-source_of.ensures.some (content_before c.args.steps.now taken c.loop-number.number) (taken c.loop-number.number)) ∙ sym here ∙ c.loop-number.invariant
+    let here = place_read c.args.script.now c.args.known.now c.loop-at.at c.in-Some.step.now c.loop-at-test.true (rw c.steps_of.ensures at read.3.0) (rw c.steps_of.ensures at read.1) in
+    sym c.in-Some-source_of.ensures.some ∙ sym here ∙ c.loop-at.invariant
 
 pub returns-in-None : goal.returns-in-None
 returns-in-None c =
-    let taken = taken_in c.args.known.now c.args.caller in
     let read = c.in-Some.ensures.lookup in
-    let here = defined_read c.args.steps.now taken c.loop-number.end c.loop-number.number c.in-Some.defining.now c.loop-number-test.true read.3.0 read.1 in
-    rw (sym c.loop-number.invariant ∙ here ∙ c.in-None.ensures.none (content_before c.args.steps.now taken c.loop-number.number) (taken c.loop-number.number)) c.own_content.ensures
+    let here = place_read c.args.script.now c.args.known.now c.loop-at.at c.in-Some.step.now c.loop-at-test.true (rw c.steps_of.ensures at read.3.0) (rw c.steps_of.ensures at read.1) in
+    rw (sym c.loop-at.invariant ∙ here ∙ c.in-None.ensures.none) c.own_content.ensures
 
 pub returns : goal.returns
-returns c = sym (undefined_at c.args.steps.now _ c.loop-number.end c.loop-number.number (omega (arith, c.loop-number-test.false))) ∙ c.loop-number.invariant
+returns c = sym (place_undefined c.args.script.now c.args.known.now c.loop-at.at (omega (arith, c.loop-at-test.false))) ∙ c.loop-at.invariant

@@ -1,10 +1,9 @@
 use Rattle.std.proofs.Common.{◌≡◌}
-use Rattle.media_accounts.specs.Contents.{content_before}
-use Rattle.report_reader.specs.Arguments.{taken_in}
+use Rattle.report_reader.specs.Places.{content_at, room_of}
 use Rattle.report_reader.proofs.clones.find_content.Given as goal
 
-abbrev pub invariant-loop-number : goal.invariant-loop-number
-invariant-loop-number l = let taken = taken_in l.known l.caller in content_before l.steps taken l.end l.number ≡ content_before l.steps taken l.before l.step
+abbrev pub invariant-loop-at : goal.invariant-loop-at
+invariant-loop-at l = content_at l.script l.known l.at ≡ content_at l.script l.known l.fn.place
 
-abbrev pub decreases-loop-number : goal.decreases-loop-number
-decreases-loop-number l = l.end
+abbrev pub decreases-loop-at : goal.decreases-loop-at
+decreases-loop-at l = room_of l.at

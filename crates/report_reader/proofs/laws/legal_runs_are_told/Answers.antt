@@ -9,7 +9,7 @@ returns c =
       kinds = c.outputs_are_of_their_kind.ensures;
       lines = c.legal_runs_fit.ensures;
       kept = c.contents_are_kept.ensures.media;
-      taken = c.contents_are_kept.ensures.chunks;
+      given = c.contents_are_kept.ensures.chunks;
     } in
     let told = legal_told laws in
     record {
