@@ -1,5 +1,5 @@
 // Variables of a caller at a seat of a shared pool.
-ghost use Rattle.std.specs.Prelude.{◌≡◌, ◌∷◌, [], None, Some, IfOk, OnErr};
+ghost use Rattle.std.specs.Prelude.{◌≡◌, ◌∷◌, [], None, Some, false, IfOk, OnErr};
 ghost use Rattle.wc_pool.specs.declared.entry.PoolEntry.{PoolEntry};
 ghost use Rattle.seat_lock.specs.Seats.{IsSameSeat};
 ghost use Rattle.seat_lock.specs.Since.{MadeSince};
@@ -9,6 +9,8 @@ ghost use Rattle.media_variables.specs.declared.lending.MediumFound.TheVariants 
 ghost use Rattle.media_variables.specs.Given.{Acts, Lends};
 ghost use Rattle.media_variables.specs.Held.{AreOf, IsEnoughUnit, medium_found, seen_in};
 ghost use Rattle.media_variables.specs.Variables.{Brought, Numbers, lendable_at, media_came, unit_came};
+ghost use Rattle.media_variables.specs.Variables.{uses_port};
+ghost use Rattle.shared_variables.specs.Since.{DidSince};
 
 use codec_definitions::Unit;
 use codec_model::HeldMedium;
@@ -22,8 +24,8 @@ use wc_base::{By, NoMemory, Who};
 use wc_chunk::Chunk;
 use wc_pool::MediaRef;
 
-/// A step on media of the caller, and its answer, as `Variables::step` has it. It makes one entry of the pool, or none. Where memory
-/// is wanted none was made, and the variables are as they were.
+/// A step on media of the caller that uses no port, and its answer, as `Variables::step` has it. It makes the entries of the pool
+/// that it calls for. Where memory is wanted none was made, and the variables are as they were.
 pub fn step_at<R: Wait>(
     rt: &R,
     alloc: Global,
@@ -36,14 +38,14 @@ pub fn step_at<R: Wait>(
 ) -> Result<Option<StepResult>, NoMemory>
     requires seat { IsFree pool.now seat.old }
     requires held { AreOf (IsPoolRef pool.now) variables.old }
+    requires ports { uses_port asked.now ≡ false }
     ensures seat { IsSameSeat seat.old seat.new }
     ensures free { IsFree pool.now seat.new }
-    ensures acts { let since = MadeSince seat.old.me.0 seat.new.me.0 in
-        let adds = λ (e : PoolEntry). since (e ∷ []) in
-        let b : Brought = record { chunk = chunk.now; taken = None } in
+    ensures acts { let did = DidSince who seat.old.me.0 seat.new.me.0 in
+        let b : Brought = record { chunk = chunk.now; taken = None; received = None } in
         let vs = seen_in variables.old in let after = seen_in variables.new in
         let came = λ (n : Numbers). media_came n who b asked.now vs in
-        IfOk result (Acts adds (since []) who came vs after) }
+        IfOk result (Acts did came vs after) }
     ensures held { AreOf (IsPoolRef pool.now) variables.new }
     ensures err { OnErr result (MadeSince seat.old.me.0 seat.new.me.0 []) }
     ensures same { OnErr result (seen_in variables.new ≡ seen_in variables.old) }
@@ -68,11 +70,10 @@ pub fn take_at<R: Wait>(
     requires enough { IsEnoughUnit unit }
     ensures seat { IsSameSeat seat.old seat.new }
     ensures free { IsFree pool.now seat.new }
-    ensures acts { let since = MadeSince seat.old.me.0 seat.new.me.0 in
-        let adds = λ (e : PoolEntry). since (e ∷ []) in
+    ensures acts { let did = DidSince who seat.old.me.0 seat.new.me.0 in
         let vs = seen_in variables.old in let after = seen_in variables.new in
         let came = λ (n : Numbers). Some (unit_came n who.step answer unit vs) in
-        IfOk result (λ r. Acts adds (since []) who came vs after (Some r)) }
+        IfOk result (λ r. Acts did came vs after (Some r)) }
     ensures held { AreOf (IsPoolRef pool.now) variables.new }
     ensures err { OnErr result (MadeSince seat.old.me.0 seat.new.me.0 []) }
     ensures same { OnErr result (seen_in variables.new ≡ seen_in variables.old) }
