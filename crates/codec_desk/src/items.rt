@@ -279,9 +279,11 @@ fn end_item<C: Coder, R: Wait>(
     )
 }
 
-/// One item of a codec, from its start to its end: its box, the gate, its work, and what its end lets go. Where its box is not free
-/// it looks at each codec, and one that may be reclaimed is, before a second acquire. An item that has no box ends for what it
-/// lacks, and else as its codec's definition answers. The moment of the end is one that the clock gave after the work. None exactly where no item may start; else the seats made an entry. Answers the place of the end.
+/// One item of a codec, from its start to its end: its box, the gate, its work, and what its end lets go. Where its
+/// box is not free it looks at each codec, and one that may be reclaimed is, before a second acquire. An item that has
+/// no box ends for what it lacks, and else as its codec's definition answers or out of memory inside its coder. The
+/// moment of the end is one that the clock gave after the work. None exactly where no item may start; else the seats
+/// made an entry. Answers the place of the end.
 pub fn work_item<C: Coder, K: Clock, G: Gate, R: Wait>(
     rt: &R,
     alloc: Global,

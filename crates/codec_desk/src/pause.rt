@@ -15,14 +15,14 @@ const LONG: u64 = 20000;
 const SHORT: u64 = 2000;
 
 // The microseconds of a sleep after so many of rest, or 0 for none. It is an eighth of them, so that threads which wait for one
-// another end soon after they could, and at most 4 milliseconds.
+// another end soon after they could, and at most 16 milliseconds.
 fn sleep_after(rested: u64) -> u64
-    ensures { result ≤ 4000 }
+    ensures { result ≤ 16000 }
 {
     if rested < QUICK {
         0
     } else {
-        (rested / 8).min(4000)
+        (rested / 8).min(16000)
     }
 }
 
