@@ -30,10 +30,10 @@ use Rattle.desk_callers.proofs.Own.{settled_by}
 
 -- of a step that made no call, no entry of the pool, and took nothing
 abbrev pub plain_deed : Who → Step → StepResult → Deed
-plain_deed who x r = record { who = who; step = x; result = r; call = None; numbers = record { resource = 0; reference = 0 }; taken = None }
+plain_deed who x r = record { who = who; step = x; result = r; call = None; numbers = record { resource = 0; reference = 0 }; taken = None; received = None; time = 0 }
 
 abbrev pub call_deed : Who → Step → StepResult → Call → Deed
-call_deed who x r y = record { who = who; step = x; result = r; call = Some y; numbers = record { resource = 0; reference = 0 }; taken = None }
+call_deed who x r y = record { who = who; step = x; result = r; call = Some y; numbers = record { resource = 0; reference = 0 }; taken = None; received = None; time = 0 }
 
 -- a caller's own results are those that it knows
 alone_at : (c : ℕ) (rs : List StepResult) → at c (results_alone c rs) ≡ rs
@@ -77,7 +77,7 @@ module _ {C : Type 0} where
           calls = helped.calls;
           variables = refl;
           between = subst (λ (q : StepResult). IsBetween q a b) saw.is saw.between;
-          is = record { result = tt; shows = (refl, known.0, known.1); answers = tt; waited = tt; stands = refl; arguments = tt; taken = refl };
+          is = record { result = tt; shows = (refl, known.0, known.1); answers = tt; waited = tt; stands = refl; arguments = tt; taken = refl; received = λ none. refl };
         };
       }
 
@@ -108,7 +108,7 @@ module _ {C : Type 0} where
           calls = helped.calls;
           variables = refl;
           between = between;
-          is = record { result = tt; shows = (p, error, ap (λ (w : Variable). slice_get (at who.caller (results_alone who.caller rs)) w.step) is ∙ came, shown); answers = tt; waited = tt; stands = refl; arguments = tt; taken = refl };
+          is = record { result = tt; shows = (p, error, ap (λ (w : Variable). slice_get (at who.caller (results_alone who.caller rs)) w.step) is ∙ came, shown); answers = tt; waited = tt; stands = refl; arguments = tt; taken = refl; received = λ none. refl };
         };
       }
       by (Step.Await v) is ended = record {
@@ -121,7 +121,7 @@ module _ {C : Type 0} where
           calls = helped.calls;
           variables = refl;
           between = between;
-          is = record { result = tt; shows = (p, error, ap (λ (w : Variable). slice_get (at who.caller (results_alone who.caller rs)) w.step) is ∙ came, shown); answers = tt; waited = subst HasEnded saw.is ended; stands = refl; arguments = tt; taken = refl };
+          is = record { result = tt; shows = (p, error, ap (λ (w : Variable). slice_get (at who.caller (results_alone who.caller rs)) w.step) is ∙ came, shown); answers = tt; waited = subst HasEnded saw.is ended; stands = refl; arguments = tt; taken = refl; received = λ none. refl };
         };
       }
       by _ is ended = absurd is
@@ -152,7 +152,7 @@ module _ {C : Type 0} where
           calls = done.calls;
           variables = after_none s media d vs (none r1);
           between = subst (λ (q : StepResult). IsBetween q a b) done.is done.between;
-          is = record { result = made; shows = shows done.place done.error w; answers = answers done.place done.error (came_of s media d vs); waited = waited done.place done.error; stands = (x, refl, done.stands); arguments = arguments; taken = refl };
+          is = record { result = made; shows = shows done.place done.error w; answers = answers done.place done.error (came_of s media d vs); waited = waited done.place done.error; stands = (x, refl, done.stands); arguments = arguments; taken = refl; received = λ none. refl };
         };
       }
 
@@ -172,7 +172,7 @@ module _ {C : Type 0} where
           calls = calls_none desk a;
           variables = refl;
           between = between_none mark.Local hs hs refl (go_same hs);
-          is = record { result = tt; shows = tt; answers = none; waited = tt; stands = refl; arguments = tt; taken = refl };
+          is = record { result = tt; shows = tt; answers = none; waited = tt; stands = refl; arguments = tt; taken = refl; received = λ none. refl };
         };
       }
 
@@ -189,6 +189,6 @@ module _ {C : Type 0} where
           calls = calls_none desk a;
           variables = refl;
           between = between_none mark.Local hs hs refl (go_same hs);
-          is = record { result = tt; shows = tt; answers = refl; waited = tt; stands = refl; arguments = tt; taken = refl };
+          is = record { result = tt; shows = tt; answers = refl; waited = tt; stands = refl; arguments = tt; taken = refl; received = λ none. refl };
         };
       }

@@ -1,5 +1,5 @@
 -- What steps ask of codecs.
-use Rattle.std.proofs.Common.{ℕ, ◌≡◌, ◌<◌, List, length, Option, Some, None, refl, ap, subst}
+use Rattle.std.proofs.Common.{ℕ, ◌≡◌, ◌<◌, false, List, length, Option, Some, None, refl, ap, subst}
 use Rattle.std.specs.Prelude.{slice_get, IfSome, Result, Ok, Err, IfOk, OnErr}
 use Rattle.wc_base.specs.declared.error.NoMemory.{NoMemory}
 use Rattle.wc_base.specs.declared.who.Who.{Who}
@@ -18,7 +18,7 @@ use Rattle.script_types.specs.declared.steps.Variable.{Variable}
 use Rattle.script_types.specs.declared.steps.VariableKind.{VariableKind}
 use Rattle.script_types.specs.Names.{called, names_codec, taken_from}
 use Rattle.report_text.specs.declared.result.StepResult.{StepResult}
-use Rattle.media_variables.specs.Variables.{Medium}
+use Rattle.media_variables.specs.Variables.{Medium, uses_port}
 use Rattle.media_accounts.specs.Accounts.{media_of}
 use Rattle.run_model.specs.Fits.{HasArguments}
 use Rattle.desk_callers.specs.Acts.{AreOpened, CalledAs, Did, Helped, NamesWithin, StaySeats}
@@ -62,6 +62,10 @@ module _ {C : Type 0} where
 pub named_at : (n : ℕ) (x : Step) (k : ℕ) → names_codec x ≡ Some k → NamesWithin n x → k < n
 named_at n x k is within = subst (λ (o : Option ℕ). IfSome o (λ j. j < n)) is within
 
+-- the port that a step names is one of so many
+pub port_there : (n : ℕ) (o : Option ℕ) (q : ℕ) → o ≡ Some q → IfSome o (λ j. j < n) → q < n
+port_there n o q is within = subst (λ (x : Option ℕ). IfSome x (λ j. j < n)) is within
+
 -- ---- steps of no such kind
 
 pub no_take : (x : MediaStep) → ((on : ℕ) (bind : List ℕ) (kind : VariableKind) → x ≡ MediaStep.Take on bind kind → ⊥) → taken_from (Step.Media x) ≡ None
@@ -71,6 +75,11 @@ no_take x never = refl
 pub no_call : (x : MediaStep) → ((on : ℕ) (content : Variable) → x ≡ MediaStep.Encode on content → ⊥) → called (Step.Media x) ≡ None
 no_call (MediaStep.Encode on content) never = absurd (never on content refl)
 no_call x never = refl
+
+pub no_port : (x : MediaStep) → ((to : ℕ) (content : Variable) → x ≡ MediaStep.Post to content → ⊥) → ((from : ℕ) (bind : List ℕ) (kind : VariableKind) → x ≡ MediaStep.Receive from bind kind → ⊥) → uses_port x ≡ false
+no_port (MediaStep.Post to content) posts receives = absurd (posts to content refl)
+no_port (MediaStep.Receive from bind kind) posts receives = absurd (receives from bind kind refl)
+no_port x posts receives = refl
 
 pub no_media : (x : Step) → ((y : MediaStep) → x ≡ Step.Media y → ⊥) → media_of x ≡ None
 no_media (Step.Media y) never = absurd (never y refl)

@@ -25,12 +25,17 @@ use Rattle.report_text.specs.declared.result.StepResult.{StepResult}
 use Rattle.media_variables.specs.Held.{AreOf}
 use Rattle.media_variables.specs.Variables.{Medium, Came}
 use Rattle.media_accounts.specs.Accounts.{StepOp, step_by}
-use Rattle.run_model.specs.Fits.{step_in, IsResultOf, IsLocalAnswer}
+use Rattle.run_model.specs.Fits.{step_in, port_posted, port_received, IsResultOf, IsLocalAnswer}
 use Rattle.run_model.specs.Recorded.{Recorded}
 use Rattle.order_laws.specs.Sound.{IsSound}
 use Rattle.desk_callers.specs.Deeds.{Deed, GoOn, IsDeed, AreDeeds, after_deed, calls_by, calls_of, came_of, known_by, own_due, owns_of, results_of, variables_after}
-use Rattle.desk_callers.specs.Acts.{histories_in, SettledBy, Did, HasDone, HasFlushed, IsPromised, NamesWithin}
-use Rattle.desk_callers.proofs.Growing.{deeds_more, settled_by_then, calls_more, variables_more, results_more}
+use Rattle.shared_port.specs.declared.port.PortPass.{PortPass}
+use Rattle.shared_variables.specs.Ports.{WholeParcel}
+use Rattle.desk_callers.specs.Passes.{AreUnused}
+use Rattle.desk_callers.specs.PortActs.{PortsWithin}
+use Rattle.desk_callers.proofs.PortSteps.{know_none, know_more}
+use Rattle.desk_callers.specs.Acts.{histories_in, SettledBy, DidAtPorts, HasDone, HasFlushed, IsPromised, NamesWithin}
+use Rattle.desk_callers.proofs.Growing.{AreUntil, until_more, deeds_more, settled_by_then, calls_more, variables_more, results_more}
 use Rattle.desk_callers.proofs.Histories.{each_goes_on}
 use Rattle.desk_callers.proofs.Own.{settled_by}
 
@@ -70,19 +75,32 @@ flush_made s media c n hs ds j y are lt step flush named =
 -- ---- one step more
 
 module _ {C : Type 0} where
-  pub done_none : (s : ScriptData) (media : List (List Chunk)) (desk : Desk C) (c : ℕ) (a : Seats C) → SitAt desk a → HasDone s media desk c [] a a []
-  done_none s media desk c a sits = record {
-    deeds = [];
-    results = refl;
-    variables = refl;
-    are = record { each = λ j d there. absurd cc; climbs = λ k. omega arith };
-    settled = settled_by c desk a a (settled_none desk a sits);
-    calls = calls_none desk a;
+  -- what a caller did until this time
+  pub record HasDoneUntil (s : ScriptData) (media : List (List Chunk)) (desk : Desk C) (c : ℕ) (rs : List StepResult) (a b : Seats C) (vs : List (Option Medium)) (ps : List (PortPass WholeParcel)) (time : ℕ) : Type 0 where
+    pub done : HasDone s media desk c rs a b vs ps
+    pub until : AreUntil done.deeds time
+
+  pub done_none : (s : ScriptData) (media : List (List Chunk)) (desk : Desk C) (c : ℕ) (a : Seats C) (ps : List (PortPass WholeParcel)) → SitAt desk a → AreUnused ps → HasDoneUntil s media desk c [] a a [] ps 0
+  done_none s media desk c a ps sits unused = record {
+    done = record {
+      deeds = [];
+      results = refl;
+      variables = refl;
+      are = record { each = λ j d there. absurd cc; climbs = λ k. omega arith; rise = λ i j d e lt there. absurd cc };
+      settled = settled_by c desk a a (settled_none desk a sits);
+      calls = calls_none desk a;
+      ports = know_none s media ps unused;
+    };
+    until = λ j d there. absurd cc;
   }
 
-  pub done_more : (s : ScriptData) (media : List (List Chunk)) (desk : Desk C) (c : ℕ) (rs : List StepResult) (a b e : Seats C) (vs after : List (Option Medium)) (x : Step) (r : StepResult) → HasDone s media desk c rs a b vs → step_in s c (length rs) ≡ Some x
-      → Did s media desk (step_by c (length rs)) x rs b e vs after r → HasDone s media desk c (rs ++ r ∷ []) a e after
-  done_more s media desk c rs a b e vs after x r done step did =
+  pub done_more : (s : ScriptData) (media : List (List Chunk)) (desk : Desk C) (c : ℕ) (rs : List StepResult) (a b e : Seats C) (vs after : List (Option Medium)) (ps qs : List (PortPass WholeParcel)) (x : Step) (r : StepResult) (time early late : ℕ) → HasDoneUntil s media desk c rs a b vs ps time → time < early → step_in s c (length rs) ≡ Some x
+      → DidAtPorts s media desk (step_by c (length rs)) x rs b e vs after ps qs early late r → HasDoneUntil s media desk c (rs ++ r ∷ []) a e after qs late
+  done_more s media desk c rs a b e vs after ps qs x r time early late was behind step made =
+      let done = was.done in
+      let did = made.did in
+      let later = made.later in
+      let time_is = made.time in
       let ds : List Deed = done.deeds in
       let d : Deed = did.deed in
       let acted = did.acted in
@@ -96,12 +114,16 @@ module _ {C : Type 0} where
       let owned : SettledBy c (owns_of s media ds ++ own) desk a e = settled_by_then c (owns_of s media ds) own desk a b e done.settled (subst (λ (n : ℕ). SettledBy n own desk b e) caller acted.settled) in
       let owns : owns_of s media (ds ++ d ∷ []) ≡ owns_of s media ds ++ own = owed_more (after_deed s media) (own_due s media) [] ds d ∙ ap (λ (l : List (Option Medium)). owns_of s media ds ++ own_due s media 0 d l) (sym done.variables) in
       record {
-        deeds = ds ++ d ∷ [];
-        results = (λ i. done.results i ++ sym did.result_is i ∷ []) ∙ sym (results_more ds d);
-        variables = acted.variables ∙ (ap (after_deed s media d) done.variables ∙ sym (variables_more s media ds d));
-        are = deeds_more s media c (histories_in b.codecs.items) (histories_in e.codecs.items) ds d done.are goes who here is acted.between;
-        settled = subst (λ (l : List StepOp). SettledBy c l desk a e) (sym owns) owned;
-        calls = subst (λ (l : List Called). Calls desk l a e) (sym (calls_more ds d)) (calls_then desk a b e (calls_of ds) (calls_by d) done.calls acted.calls);
+        done = record {
+          deeds = ds ++ d ∷ [];
+          results = (λ i. done.results i ++ sym did.result_is i ∷ []) ∙ sym (results_more ds d);
+          variables = acted.variables ∙ (ap (after_deed s media d) done.variables ∙ sym (variables_more s media ds d));
+          are = deeds_more s media c (histories_in b.codecs.items) (histories_in e.codecs.items) ds d time done.are was.until (omega (arith, behind, later, time_is)) goes who here is acted.between;
+          settled = subst (λ (l : List StepOp). SettledBy c l desk a e) (sym owns) owned;
+          calls = subst (λ (l : List Called). Calls desk l a e) (sym (calls_more ds d)) (calls_then desk a b e (calls_of ds) (calls_by d) done.calls acted.calls);
+          ports = know_more s media ds d vs ps qs done.ports done.variables made.ports;
+        };
+        until = until_more ds d time late was.until (omega (arith, behind, later)) time_is;
       }
 
 -- ---- what the next step needs
@@ -118,10 +140,21 @@ promised_by n rs x f (Some v) is = f v is
 pub names_next : (s : ScriptData) (n c j : ℕ) (x : Step) → IsSound s → length s.codecs ≡ n → step_in s c j ≡ Some x → NamesWithin n x
 names_next s n c j x sound same step = within_by n x (λ k named. subst (λ (m : ℕ). k < m) same (sound.names c j k x step named)) (names_codec x) refl
 
+-- and a port that is there
+port_within : (n : ℕ) (o : Option ℕ) → ((q : ℕ) → o ≡ Some q → q < n) → IfSome o (λ q. q < n)
+port_within n None f = tt
+port_within n (Some q) f = f q refl
+
+pub ports_next : (s : ScriptData) (n c j : ℕ) (x : Step) → IsSound s → length s.ports ≡ n → step_in s c j ≡ Some x → PortsWithin n x
+ports_next s n c j x sound same step = record {
+  posts = port_within n (port_posted x) (λ q named. subst (λ (m : ℕ). q < m) same (sound.posts c j q x step named));
+  receives = port_within n (port_received x) (λ q named. subst (λ (m : ℕ). q < m) same (sound.receives c j q x step named));
+}
+
 module _ {C : Type 0} where
   -- a flush that the next step looks at was made
-  pub promised_next : (s : ScriptData) (media : List (List Chunk)) (desk : Desk C) (n c : ℕ) (rs : List StepResult) (a b : Seats C) (vs : List (Option Medium)) (x : Step) → IsSound s → length s.codecs ≡ n → HasDone s media desk c rs a b vs → step_in s c (length rs) ≡ Some x → IsPromised n rs (looked_at x)
-  promised_next s media desk n c rs a b vs x sound same done step =
+  pub promised_next : (s : ScriptData) (media : List (List Chunk)) (desk : Desk C) (n c : ℕ) (rs : List StepResult) (a b : Seats C) (vs : List (Option Medium)) (ps : List (PortPass WholeParcel)) (x : Step) → IsSound s → length s.codecs ≡ n → HasDone s media desk c rs a b vs ps → step_in s c (length rs) ≡ Some x → IsPromised n rs (looked_at x)
+  promised_next s media desk n c rs a b vs ps x sound same done step =
       let ds : List Deed = done.deeds in
       let long : length rs ≡ length ds = ap length done.results ∙ length-map ds (λ y. y.result) in
       promised_by n rs x

@@ -1,6 +1,7 @@
 -- One deed after another.
-use Rattle.std.proofs.Common.{ℕ, ◌≡◌, ◌≤◌, inl, inr, List, [], ◌∷◌, ◌++◌, map, length, take, Option, Some, refl, ap, sym, subst, ◌∙◌, arith, append-nil, append_assoc}
+use Rattle.std.proofs.Common.{ℕ, ◌≡◌, ◌<◌, ◌≤◌, inl, inr, List, [], ◌∷◌, ◌++◌, map, length, take, Option, Some, refl, ap, sym, subst, ◌∙◌, arith, append-nil, append_assoc}
 use Rattle.std.specs.List.{filter, sum_by}
+use Rattle.std.specs.Prelude.{slice_get}
 use Rattle.std.proofs.Math.Seq.{take-length}
 use Rattle.std.proofs.lemmas.List.{take-append-le}
 use Rattle.std.proofs.lemmas.List.Concat.{flat_map-append}
@@ -76,10 +77,37 @@ look_within (result.State m q state size) k n low high is may = look_seen m q k 
 look_within (result.NoUnit m q) k n low high is may = look_seen m q k n low high is may
 look_within r k n low high is may = absurd cc
 
+-- all these deeds are at this time or earlier
+abbrev pub AreUntil : List Deed → ℕ → Type 0
+AreUntil ds time = (j : ℕ) (d : Deed) → slice_get ds j ≡ Some d → d.time ≤ time
+
+-- one more, at a later time
+pub until_more : (ds : List Deed) (d : Deed) (early late : ℕ) → AreUntil ds early → early ≤ late → d.time ≡ late → AreUntil (ds ++ d ∷ []) late
+until_more ds d early late until later is j e there = elim (get_more ds d j e there) [
+  | inl old ↦ (let before = until j e old in omega (arith, before, later))
+  | inr new ↦ (let same : e.time ≡ d.time = ap (λ (x : Deed). x.time) new.1 in omega (arith, same, is))
+]
+
+times_rise : (ds : List Deed) (d : Deed) (early : ℕ) → ((i j : ℕ) (e f : Deed) → i < j → slice_get ds i ≡ Some e → slice_get ds j ≡ Some f → e.time < f.time) → AreUntil ds early → early < d.time
+    → (i j : ℕ) (e f : Deed) → i < j → slice_get (ds ++ d ∷ []) i ≡ Some e → slice_get (ds ++ d ∷ []) j ≡ Some f → e.time < f.time
+times_rise ds d early rise until later i j e f lt one two = elim (get_more ds d j f two) [
+  | inl last ↦ elim (get_more ds d i e one) [
+    | inl first ↦ rise i j e f lt first last
+    | inr new ↦ absurd (let below = slice_get_within ds j f last in let end = new.0 in omega (arith, below, end, lt))
+  ]
+  | inr here ↦ (
+      let same : f.time ≡ d.time = ap (λ (x : Deed). x.time) here.1 in
+      let end = here.0 in
+      elim (get_more ds d i e one) [
+        | inl first ↦ (let before = until i e first in omega (arith, before, later, same))
+        | inr new ↦ absurd (let also = new.0 in omega (arith, end, also, lt))
+      ])
+]
+
 -- the next step of a caller
-pub deeds_more : (s : ScriptData) (media : List (List Chunk)) (c : ℕ) (hs later : List (List Entry)) (ds : List Deed) (d : Deed) → AreDeeds s media c hs ds → GoOn hs later → d.who ≡ step_by c (length ds) → step_in s c (length ds) ≡ Some d.step
+pub deeds_more : (s : ScriptData) (media : List (List Chunk)) (c : ℕ) (hs later : List (List Entry)) (ds : List Deed) (d : Deed) (early : ℕ) → AreDeeds s media c hs ds → AreUntil ds early → early < d.time → GoOn hs later → d.who ≡ step_by c (length ds) → step_in s c (length ds) ≡ Some d.step
     → IsDeed s media later (results_of ds) (variables_after s media ds) d → ((k : ℕ) → MayClimb (reach k (mark_of d.result)) (length (at k hs)) (length (at k later))) → AreDeeds s media c later (ds ++ d ∷ [])
-deeds_more s media c hs later ds d are goes who step is may = record {
+deeds_more s media c hs later ds d early are until behind goes who step is may = record {
   each = λ j e there. (elim (get_more ds d j e there) [
     | inl old ↦ (let lt = slice_get_within ds j e old in
         subst (λ (l : List Deed). IsDeedAfter s media c later l e) (sym (take-append-le j ds (d ∷ []) (omega (arith, lt)))) (deed_after s media c hs later (take j ds) e goes (are.each j e old)))
@@ -91,6 +119,7 @@ deeds_more s media c hs later ds d are goes who step is may = record {
   ]);
   climbs = λ k. subst (λ (l : List Mark). Climbs k 0 l (length (at k later))) (sym (ap (map mark_of) (results_more ds d) ∙ map_both mark_of (results_of ds) (d.result ∷ [])))
       (climbs_add k 0 (map mark_of (results_of ds)) (length (at k hs)) (mark_of d.result) (length (at k later)) (are.climbs k) (may k));
+  rise = times_rise ds d early are.rise until behind;
 }
 
 -- ---- what was settled, and then more

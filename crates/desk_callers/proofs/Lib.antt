@@ -6,11 +6,14 @@ mod Encoding
 mod Ends
 mod Growing
 mod Histories
+mod Knowing
 mod Lent
 mod Looking
 mod MediaActs
 mod MediaSteps
 mod Own
+mod PortActs
+mod PortSteps
 mod Promises
 mod Runners
 mod Seen

@@ -1,5 +1,5 @@
 -- Steps of callers on media of their own are deeds.
-use Rattle.std.proofs.Common.{ℕ, ◌≡◌, List, [], Option, Some, None, Result, Ok, Err, refl}
+use Rattle.std.proofs.Common.{ℕ, ◌≡◌, List, [], Option, Some, None, Result, Ok, Err, refl, sym, subst}
 use Rattle.std.specs.Prelude.{unwrap_or, option_map}
 use Rattle.wc_base.specs.declared.error.DomError.{DomError}
 use Rattle.wc_base.specs.declared.who.Who.{Who}
@@ -15,8 +15,8 @@ use Rattle.script_types.specs.declared.options.Options.{Options}
 use Rattle.script_types.specs.declared.steps.MediaStep.{MediaStep}
 use Rattle.script_types.specs.declared.steps.Step.{Step}
 use Rattle.report_text.specs.declared.result.StepResult.{StepResult}
-use Rattle.media_variables.specs.Variables.{Reference, Shape, SoundOf, PictureOf, Medium, Numbers, Came, Brought, zeros, sound_of, frame_of, copy_options, rect_of, layouts_in, audio_copied, frame_copied, planes_copied, chunk_copied, size_found, copy_chunk, copy_medium, size_of_medium, chunk_of_variable, media_came}
-use Rattle.media_variables.specs.CameLaws.{by_came}
+use Rattle.media_variables.specs.Variables.{Reference, Shape, SoundOf, PictureOf, Medium, Numbers, Came, Received, Brought, zeros, sound_of, frame_of, copy_options, rect_of, layouts_in, audio_copied, frame_copied, planes_copied, chunk_copied, size_found, copy_chunk, copy_medium, size_of_medium, chunk_of_variable, media_came, all_but, adopted_in, steps_in}
+use Rattle.media_variables.specs.CameLaws.{by_came, lets_each, made_answer}
 use Rattle.run_model.specs.Recorded.{Recorded}
 use Rattle.run_model.specs.Fits.{mark_of, taken_by, IsAnswerOf, LookShows}
 use Rattle.run_model.specs.FitsLaws.{made_at}
@@ -49,16 +49,21 @@ size_own (PictureOf shape) held (Options.Frame (Some o)) = found_own size_found 
 size_own shape held o = refl
 
 -- to which no output is brought
-abbrev pub without_output : Option Chunk → Brought
-without_output chunk = record { chunk = chunk; taken = None }
+abbrev pub without_output : Option Chunk → Option Received → Brought
+without_output chunk received = record { chunk = chunk; taken = None; received = received }
 
 -- what a step on media answers
-pub media_own : (n : Numbers) (who : Who) (chunk : Option Chunk) (x : MediaStep) (vs : List (Option Medium)) (y : Came) → media_came n who (without_output chunk) x vs ≡ Some y → IsOwn y.answer
-media_own n who chunk x vs y = by_came n who (without_output chunk) vs (λ z came. IsOwn came.answer) (record {
+pub media_own : (n : Numbers) (who : Who) (chunk : Option Chunk) (received : Option Received) (x : MediaStep) (vs : List (Option Medium)) (y : Came) → media_came n who (without_output chunk received) x vs ≡ Some y → IsOwn y.answer
+media_own n who chunk received x vs y = by_came n who (without_output chunk received) vs (λ z came. IsOwn came.answer) (record {
   refuses = λ z e. refl;
   absent = λ z. refl;
   audio = λ bind i. refl;
   frame = λ bind i. refl;
+  buffer = λ bind bytes. refl;
+  buffered = λ bind i valid may. lets_each (λ c. IsOwn c.answer) (λ j c own. own) (all_but (adopted_in i) (steps_in i.transfer)) _ (subst IsOwn (sym (made_answer n who.step i (adopted_in i) vs)) refl);
+  posts = λ to content m r is holds. refl;
+  receives_none = λ from bind kind is. refl;
+  receives = λ from bind kind p is. refl;
   takes = λ on bind kind t is. absurd cc;
   clones = λ of bind m r is holds. refl;
   transfers = λ of bind m r is holds. refl;

@@ -27,8 +27,9 @@ use Rattle.codec_desk.specs.DeskLaws.{sees_same}
 use Rattle.codec_desk.specs.Each.{Each}
 use Rattle.codec_desk.specs.EachLaws.{each_same}
 use Rattle.desk_threads.specs.Accounts.{is_by_codec, for_codecs}
-use Rattle.media_variables.specs.Variables.{with_last, entry_of}
+use Rattle.media_variables.specs.Variables.{with_last}
 use Rattle.media_accounts.specs.Accounts.{StepOp, step_op, own_by, own_in}
+use Rattle.shared_variables.specs.Since.{EntriesBy}
 use Rattle.desk_callers.specs.Acts.{StaySeats, SettledBy}
 
 -- whether a caller's step made the entry
@@ -87,13 +88,43 @@ last_twice last (op.Make r f) = refl
 last_twice last (op.Clone r f) = refl
 last_twice last (op.End r f any) = refl
 
-own_here : (who : Who) (last : Bool) (o : PoolOp) → own_in who.caller (entry_of who last o ∷ []) ≡ step_op who.step o ∷ []
-own_here who last o =
-    ap (λ (b : Bool). cond b (step_op who.step (with_last last o) ∷ []) [] ++ []) (eq-eqb who.caller who.caller refl)
-    ∙ ap (λ (p : PoolOp). op_at who.step p ∷ []) (last_twice last o)
+-- the entries of a caller's step are its own
+own_first : (who : Who) (last : Bool) (o : PoolOp) (rest : List StepOp) → own_by who.caller (by.Caller who) (with_last last o) ++ rest ≡ step_op who.step o ∷ rest
+own_first who last o rest =
+    ap (λ (b : Bool). cond b (step_op who.step (with_last last o) ∷ []) [] ++ rest) (eq-eqb who.caller who.caller refl)
+    ∙ ap (λ (p : PoolOp). op_at who.step p ∷ rest) (last_twice last o)
 
-own_elsewhere : (who : Who) (last : Bool) (o : PoolOp) (d : ℕ) → d ≢ who.caller → own_in d (entry_of who last o ∷ []) ≡ []
-own_elsewhere who last o d other = ap (λ (b : Bool). cond b (step_op who.step (with_last last o) ∷ []) [] ++ []) (ne_eqb who.caller d (λ e. other (sym e)))
+own_here : (who : Who) (os : List PoolOp) (es : List PoolEntry) → EntriesBy who os es → own_in who.caller es ≡ map (step_op who.step) os
+own_here who [] [] by = refl
+own_here who (o ∷ os) (e ∷ es) by =
+    ap (λ (x : PoolEntry). own_by who.caller x.by x.op ++ own_in who.caller es) by.0.1
+    ∙ (own_first who by.0.0 o (own_in who.caller es) ∙ ap (λ (l : List StepOp). step_op who.step o ∷ l) (own_here who os es by.1))
+own_here who [] (e ∷ es) by = absurd by
+own_here who (o ∷ os) [] by = absurd by
+
+-- and no other caller's
+own_other : (who : Who) (last : Bool) (o : PoolOp) (d : ℕ) (rest : List StepOp) → d ≢ who.caller → own_by d (by.Caller who) (with_last last o) ++ rest ≡ rest
+own_other who last o d rest other = ap (λ (b : Bool). cond b (step_op who.step (with_last last o) ∷ []) [] ++ rest) (ne_eqb who.caller d (λ e. other (sym e)))
+
+own_elsewhere : (who : Who) (os : List PoolOp) (es : List PoolEntry) (d : ℕ) → EntriesBy who os es → d ≢ who.caller → own_in d es ≡ []
+own_elsewhere who [] [] d by other = refl
+own_elsewhere who (o ∷ os) (e ∷ es) d by other =
+    ap (λ (x : PoolEntry). own_by d x.by x.op ++ own_in d es) by.0.1 ∙ (own_other who by.0.0 o d (own_in d es) other ∙ own_elsewhere who os es d by.1 other)
+own_elsewhere who [] (e ∷ es) d by other = absurd by
+own_elsewhere who (o ∷ os) [] d by other = absurd by
+
+-- nor are they of codecs
+none_for_codecs : (who : Who) (os : List PoolOp) (es : List PoolEntry) → EntriesBy who os es → [] ≡ for_codecs es
+none_for_codecs who [] [] by = refl
+none_for_codecs who (o ∷ os) (e ∷ es) by = none_for_codecs who os es by.1 ∙ sym (ap (λ (x : PoolEntry). for_codecs (x ∷ es)) by.0.1)
+none_for_codecs who [] (e ∷ es) by = absurd by
+none_for_codecs who (o ∷ os) [] by = absurd by
+
+none_done : (k place : ℕ) (who : Who) (os : List PoolOp) (es : List PoolEntry) → EntriesBy who os es → flat_map (done_at k place) es ≡ []
+none_done k place who [] [] by = refl
+none_done k place who (o ∷ os) (e ∷ es) by = ap (λ (x : PoolEntry). flat_map (done_at k place) (x ∷ es)) by.0.1 ∙ none_done k place who os es by.1
+none_done k place who [] (e ∷ es) by = absurd by
+none_done k place who (o ∷ os) [] by = absurd by
 
 module _ {C : Type 0} where
   -- what is settled for codecs alone is so with nothing by a caller's steps
@@ -146,35 +177,21 @@ module _ {C : Type 0} where
   told_rests : (desk : Desk C) (a : Seats C) → SitAt desk a → Each (TellsSince a.slots.me.0.log) desk.codecs.items a.codecs.items a.codecs.items
   told_rests desk a sits = each_same (SitsAt desk.pool desk.slots.id) (TellsSince a.slots.me.0.log) (λ n t w h. ends_none a.slots.me.0.log t.codec t.opening w.me.0) 0 desk.codecs.items a.codecs.items sits.codecs
 
-  -- an entry by a caller's step
-  pub settled_own : (desk : Desk C) (a : Seats C) (p : Seat (Option LockedPool) (View PoolEntry)) (who : Who) (last : Bool) (o : PoolOp) → SitAt desk a → Keeps desk.pool a.pool p → MadeSince a.pool.me.0 p.me.0 (entry_of who last o ∷ [])
-      → SettledBy who.caller (step_op who.step o ∷ []) desk a (with_pool a p)
-  settled_own desk a p who last o sits kept since = record {
-    seats = stay_pool desk a p sits kept;
-    entries = [];
-    made = made_none a.slots.me.0;
-    owed = λ t. ap (sum_by t) (sym (append-nil (slot_calls desk.codecs.items a.codecs.items)));
-    does = entry_of who last o ∷ [];
-    pool = since;
-    lends = λ t. ap (sum_by t) (sym (append-nil (pool_calls desk.codecs.items a.codecs.items)));
-    order = order_rests desk a (entry_of who last o ∷ []) sits (λ k place. refl);
-    told = told_rests desk a sits;
-    own = own_here who last o;
-    others = own_elsewhere who last o;
-  }
-
-  -- or none
-  pub settled_rest : (c : ℕ) (desk : Desk C) (a : Seats C) (p : Seat (Option LockedPool) (View PoolEntry)) → SitAt desk a → Keeps desk.pool a.pool p → MadeSince a.pool.me.0 p.me.0 [] → SettledBy c [] desk a (with_pool a p)
-  settled_rest c desk a p sits kept since = record {
-    seats = stay_pool desk a p sits kept;
-    entries = [];
-    made = made_none a.slots.me.0;
-    owed = λ t. ap (sum_by t) (sym (append-nil (slot_calls desk.codecs.items a.codecs.items)));
-    does = [];
-    pool = since;
-    lends = λ t. ap (sum_by t) (sym (append-nil (pool_calls desk.codecs.items a.codecs.items)));
-    order = order_rests desk a [] sits (λ k place. refl);
-    told = told_rests desk a sits;
-    own = refl;
-    others = λ d other. refl;
-  }
+  -- the entries of a caller's step
+  pub settled_own : (desk : Desk C) (a : Seats C) (p : Seat (Option LockedPool) (View PoolEntry)) (who : Who) (os : List PoolOp) (es : List PoolEntry) → EntriesBy who os es → SitAt desk a → Keeps desk.pool a.pool p → MadeSince a.pool.me.0 p.me.0 es
+      → SettledBy who.caller (map (step_op who.step) os) desk a (with_pool a p)
+  settled_own desk a p who os es by sits kept since =
+      let calls = pool_calls desk.codecs.items a.codecs.items in
+      record {
+        seats = stay_pool desk a p sits kept;
+        entries = [];
+        made = made_none a.slots.me.0;
+        owed = λ t. ap (sum_by t) (sym (append-nil (slot_calls desk.codecs.items a.codecs.items)));
+        does = es;
+        pool = since;
+        lends = λ t. ap (sum_by t) (sym (append-nil calls) ∙ ap (λ (l : List PoolEntry). calls ++ l) (none_for_codecs who os es by));
+        order = order_rests desk a es sits (λ k place. none_done k place who os es by);
+        told = told_rests desk a sits;
+        own = own_here who os es by;
+        others = λ d other. own_elsewhere who os es d by other;
+      }

@@ -1,5 +1,5 @@
 -- What takes and encodes of callers did.
-use Rattle.std.proofs.Common.{ℕ, ◌≡◌, ◌<◌, List, [], ◌∷◌, map, length, take, Option, Some, None, refl, ap, sym, subst, ◌∙◌}
+use Rattle.std.proofs.Common.{ℕ, ◌≡◌, ◌<◌, List, [], map, length, take, Option, Some, None, refl, ap, sym, subst, ◌∙◌}
 use Rattle.std.specs.Prelude.{slice_get, option_map, Result, Ok, Err, IfOk, OnErr}
 use Rattle.atomic_table.specs.declared.shared.Seat.{Seat}
 use Rattle.wc_base.specs.Options.{some_same}
@@ -33,6 +33,7 @@ use Rattle.codec_desk.specs.NamedLaws.{calls_none}
 use Rattle.report_text.specs.declared.result.StepResult.{StepResult}
 use Rattle.media_variables.specs.Variables.{Medium, Numbers, Came, unit_came, lendable_at}
 use Rattle.media_variables.specs.Given.{Acts}
+use Rattle.shared_variables.specs.Since.{DidSince}
 use Rattle.media_accounts.specs.Accounts.{step_op, done_by}
 use Rattle.run_model.specs.Recorded.{opening_at, output_at}
 use Rattle.desk_callers.specs.Deeds.{taken_as}
@@ -52,7 +53,7 @@ module _ {C : Type 0} where
   -- a take that found an output, and what went into the step's variable
   pub took_acted : (s : ScriptData) (media : List (List Chunk)) (desk : Desk C) (rs : List StepResult) (a m : Seats C) (p : Seat (Option LockedPool) (View PoolEntry)) (vs after : List (Option Medium)) (who : Who) (on : ℕ) (bind : List ℕ) (kind : VariableKind) (place number : ℕ) (u : output.Unit) (r : StepResult) (x : Shared)
       → slice_get desk.codecs.items on ≡ Some x → AreOpened s desk.codecs.items → SitAt desk m → TookAs desk who on place number u a m → Keeps desk.pool m.pool p
-      → Acts (λ e. MadeSince m.pool.me.0 p.me.0 (e ∷ [])) (MadeSince m.pool.me.0 p.me.0 []) who (λ n. Some (unit_came n who.step (StepResult.Unit on place number) u vs)) vs after (Some r)
+      → Acts (DidSince who m.pool.me.0 p.me.0) (λ n. Some (unit_came n who.step (StepResult.Unit on place number) u vs)) vs after (Some r)
       → Did s media desk who (Step.Media (MediaStep.Take on bind kind)) rs a (with_pool m p) vs after r
   took_acted s media desk rs a m p vs after who on bind kind place number u r x there opened sits took kept acts =
       let n : Numbers = acts.numbers in
@@ -62,7 +63,7 @@ module _ {C : Type 0} where
       let hs : List (List Entry) = histories_in m.codecs.items in
       let shown : output_at (opening_at s on) (at on hs) number ≡ Some u = ap (λ (o : Opening). output_at o (at on hs) number) (sym (opened on x there)) ∙ took.shows x there in
       record {
-        deed = record { who = who; step = Step.Media (MediaStep.Take on bind kind); result = answer; call = Some (Call.Take number); numbers = n; taken = Some u };
+        deed = record { who = who; step = Step.Media (MediaStep.Take on bind kind); result = answer; call = Some (Call.Take number); numbers = n; taken = Some u; received = None; time = 0 };
         who_is = refl;
         step_is = refl;
         result_is = sym (some_same r y.answer came.0 ∙ unit_answers n who.step answer u vs);
@@ -79,6 +80,7 @@ module _ {C : Type 0} where
             stands = (Call.Take number, refl, took.stands);
             arguments = (number, refl);
             taken = sym (ap (option_map (taken_as answer)) shown);
+            received = λ none. refl;
           };
         };
       }
@@ -99,7 +101,7 @@ module _ {C : Type 0} where
           calls = took.helped.calls;
           variables = refl;
           between = took.between;
-          is = record { result = refl; shows = (refl, none); answers = tt; waited = tt; stands = refl; arguments = tt; taken = refl };
+          is = record { result = refl; shows = (refl, none); answers = tt; waited = tt; stands = refl; arguments = tt; taken = refl; received = λ none. refl };
         };
       }
 
@@ -130,7 +132,7 @@ module _ {C : Type 0} where
           calls = calls_none desk a;
           variables = refl;
           between = between_none mark.Local hs hs refl (go_same hs);
-          is = record { result = tt; shows = tt; answers = none; waited = tt; stands = refl; arguments = tt; taken = refl };
+          is = record { result = tt; shows = tt; answers = none; waited = tt; stands = refl; arguments = tt; taken = refl; received = λ none. refl };
         };
       }
 
@@ -138,13 +140,13 @@ module _ {C : Type 0} where
 
   -- the pool's seat stays
   pub keeps_taken : (desk : Desk C) (a p : Seat (Option LockedPool) (View PoolEntry)) (who : Who) (came : Numbers → Option Came) (vs after : List (Option Medium)) (r : Result StepResult NoMemory) → IsSameSeat a p → pools.IsFree desk.pool p
-      → IfOk r (λ q. Acts (λ e. MadeSince a.me.0 p.me.0 (e ∷ [])) (MadeSince a.me.0 p.me.0 []) who came vs after (Some q)) → OnErr r (MadeSince a.me.0 p.me.0 []) → Keeps desk.pool a p
+      → IfOk r (λ q. Acts (DidSince who a.me.0 p.me.0) came vs after (Some q)) → OnErr r (MadeSince a.me.0 p.me.0 []) → Keeps desk.pool a p
   keeps_taken desk a p who came vs after (Ok answer) same free acts err = let m = acts_made a.me.0 p.me.0 who came vs after (Some answer) acts in keeps_since desk.pool a p m.0 same free.0 m.1
   keeps_taken desk a p who came vs after (Err e) same free acts err = keeps_since desk.pool a p [] same free.0 err
 
   pub did_take : (s : ScriptData) (media : List (List Chunk)) (desk : Desk C) (rs : List StepResult) (a m : Seats C) (p : Seat (Option LockedPool) (View PoolEntry)) (vs after : List (Option Medium)) (who : Who) (on : ℕ) (bind : List ℕ) (kind : VariableKind) (place number : ℕ) (u : output.Unit) (r : Result StepResult NoMemory)
       → on < length desk.codecs.items → AreOpened s desk.codecs.items → SitAt desk m → TookAs desk who on place number u a m → Keeps desk.pool m.pool p
-      → IfOk r (λ q. Acts (λ e. MadeSince m.pool.me.0 p.me.0 (e ∷ [])) (MadeSince m.pool.me.0 p.me.0 []) who (λ n. Some (unit_came n who.step (StepResult.Unit on place number) u vs)) vs after (Some q))
+      → IfOk r (λ q. Acts (DidSince who m.pool.me.0 p.me.0) (λ n. Some (unit_came n who.step (StepResult.Unit on place number) u vs)) vs after (Some q))
       → IfOk r (Did s media desk who (Step.Media (MediaStep.Take on bind kind)) rs a (with_pool m p) vs after)
   did_take s media desk rs a m p vs after who on bind kind place number u (Ok r) lt opened sits took kept acts =
       let there = get_some desk.codecs.items on lt in

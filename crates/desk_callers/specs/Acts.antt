@@ -1,5 +1,5 @@
 -- What a step of a caller does with its seats at a desk.
-use Rattle.std.specs.Prelude.{ℕ, ◌≡◌, ◌≢◌, ◌<◌, IfSome, Bool, List, [], ◌∷◌, ◌++◌, length, map, take, Option, Some, None, slice_get}
+use Rattle.std.specs.Prelude.{ℕ, ◌≡◌, ◌≢◌, ◌<◌, ◌≤◌, IfSome, Bool, List, [], ◌∷◌, ◌++◌, length, map, take, Option, Some, None, slice_get}
 use Rattle.atomic_table.specs.declared.shared.Seat.{Seat}
 use Rattle.wc_base.specs.declared.error.DomError.{DomError}
 use Rattle.wc_base.specs.declared.seat.View.{View}
@@ -27,6 +27,7 @@ use Rattle.report_text.specs.declared.result.StepResult.{StepResult}
 use Rattle.report_text.specs.declared.result.StepResult.TheVariants as result
 use Rattle.shared_codec.specs.Keeps.{Keeps}
 use Rattle.shared_codec.specs.Shared.{Shared}
+use Rattle.shared_port.specs.declared.port.PortPass.{PortPass}
 use Rattle.codec_desk.specs.declared.desk.Desk.{Desk}
 use Rattle.codec_desk.specs.declared.desk.Seats.{Seats}
 use Rattle.codec_desk.specs.Desks.{SeesMore, InOrderSince, TellsSince, slot_calls, pool_calls, Settled}
@@ -38,7 +39,10 @@ use Rattle.media_accounts.specs.Accounts.{StepOp, own_in}
 use Rattle.run_model.specs.Recorded.{opening_at, output_at, promise_after, take_entry}
 use Rattle.run_model.specs.Fits.{exception_at, mark_of}
 use Rattle.codec_desk.specs.Named.{Calls}
+use Rattle.shared_variables.specs.Ports.{WholeParcel}
 use Rattle.desk_callers.specs.Deeds.{Deed, AreDeeds, IsDeed, after_deed, calls_by, calls_of, own_due, owns_of, results_of, variables_after}
+use Rattle.desk_callers.specs.Passes.{KnowPorts}
+use Rattle.desk_callers.specs.PortActs.{ActsAtPorts}
 
 -- the codecs' histories, as far as these seats have seen them
 abbrev pub histories_in : {S : Type 0} → List (Seat (Option S) (View Event)) → List (List Entry)
@@ -157,15 +161,23 @@ module _ {C : Type 0} where
     pub result_is : deed.result ≡ r
     pub acted : Acted s media desk rs a b vs after deed
 
-  -- What a caller did with its first steps, these being its results and this what its variables hold: its deeds, in order, and what
-  -- they call for.
-  pub record HasDone (s : ScriptData) (media : List (List Chunk)) (desk : Desk C) (c : ℕ) (rs : List StepResult) (a b : Seats C) (vs : List (Option Medium)) : Type 0 where
+  -- The same, with its passes of the ports before it and those after it. It began at one time, and its own is the other.
+  pub record DidAtPorts (s : ScriptData) (media : List (List Chunk)) (desk : Desk C) (who : Who) (x : Step) (rs : List StepResult) (a b : Seats C) (vs after : List (Option Medium)) (ps qs : List (PortPass WholeParcel)) (early late : ℕ) (r : StepResult) : Type 0 where
+    pub did : Did s media desk who x rs a b vs after r
+    pub ports : ActsAtPorts did.deed vs ps qs
+    pub later : early ≤ late
+    pub time : did.deed.time ≡ late
+
+  -- What a caller did with its first steps, these being its results, this what its variables hold and these its passes of the ports:
+  -- its deeds, in order, and what they call for.
+  pub record HasDone (s : ScriptData) (media : List (List Chunk)) (desk : Desk C) (c : ℕ) (rs : List StepResult) (a b : Seats C) (vs : List (Option Medium)) (ps : List (PortPass WholeParcel)) : Type 0 where
     pub deeds : List Deed
     pub results : rs ≡ results_of deeds
     pub variables : vs ≡ variables_after s media deeds
     pub are : AreDeeds s media c (histories_in b.codecs.items) deeds
     pub settled : SettledBy c (owns_of s media deeds) desk a b
     pub calls : Calls desk (calls_of deeds) a b
+    pub ports : KnowPorts s media deeds ps
 
 -- the flush that is the step with this number was made, as an entry of this codec at this place
 abbrev pub HasFlushed : List StepResult → ℕ → ℕ → ℕ → Type 0

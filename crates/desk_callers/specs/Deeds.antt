@@ -1,6 +1,6 @@
 -- What callers did: each step that was made, as a deed. A caller is as a codec: its deeds are its history, its variables of media the
 -- state, and what it did to the pool and which calls it made are what its deeds call for.
-use Rattle.std.specs.Prelude.{ℕ, zero, suc, ◌≡◌, ◌≤◌, List, [], ◌∷◌, ◌++◌, map, take, length, slice_get, Option, Some, None, IfSome, option_map, option_and_then}
+use Rattle.std.specs.Prelude.{ℕ, zero, suc, ◌≡◌, ◌<◌, ◌≤◌, List, [], ◌∷◌, ◌++◌, map, take, length, slice_get, Option, Some, None, IfSome, option_map, option_and_then}
 use Rattle.wc_base.specs.declared.who.Who.{Who}
 use Rattle.wc_chunk.specs.declared.chunk.Chunk.{Chunk}
 use Rattle.codec_definitions.specs.declared.unit.Unit as output
@@ -17,14 +17,15 @@ use Rattle.script_types.specs.declared.steps.Step.TheVariants as step
 use Rattle.script_types.specs.declared.steps.MediaStep.{MediaStep}
 use Rattle.report_text.specs.declared.result.StepResult.{StepResult}
 use Rattle.report_text.specs.declared.result.StepResult.TheVariants as result
-use Rattle.media_variables.specs.Variables.{Medium, Numbers, Came, Taken, Brought, media_came}
+use Rattle.media_variables.specs.Variables.{Medium, Numbers, Came, Taken, Received, Brought, media_came}
 use Rattle.media_accounts.specs.Accounts.{StepOp, step_by, step_op, done_by, media_of, variables_by}
-use Rattle.run_model.specs.Recorded.{Recorded, copied_chunk, steps_of}
-use Rattle.run_model.specs.Fits.{step_in, mark_of, taken_by, IsResultOf, LookShows, HasArguments, IsLocalAnswer}
+use Rattle.run_model.specs.Recorded.{Recorded, copied_chunk, none_received, steps_of}
+use Rattle.run_model.specs.Fits.{step_in, mark_of, taken_by, received_by, port_received, IsResultOf, LookShows, HasArguments, IsLocalAnswer}
 use Rattle.run_model.specs.FitsLaws.{made_at, look_of}
 
 -- A step that a caller made, and its result. With it the call that it made of a codec, if it made one; the numbers in its own entry
--- of the pool, which are of no account where it has none; and the output that it took, if it took one.
+-- of the pool, which are of no account where it has none; the output that it took, if it took one; what it received from a port; and
+-- its time, by which posts come before their receives.
 pub record Deed : Type 0 where
   pub who : Who
   pub step : Step
@@ -32,6 +33,8 @@ pub record Deed : Type 0 where
   pub call : Option Call
   pub numbers : Numbers
   pub taken : Option output.Unit
+  pub received : Option Received
+  pub time : ℕ
 
 -- the call of a caller's step, at the codec and the place that a result names, if it names one
 abbrev pub called_as : Who → Option Call → Option (ℕ × ℕ) → List Called
@@ -52,7 +55,7 @@ taken_as answer u = record { unit = u; answer = answer }
 module _ (s : ScriptData) (media : List (List Chunk)) where
   -- what was given to the deed from elsewhere
   abbrev pub brought_by : Deed → MediaStep → Brought
-  brought_by d x = record { chunk = copied_chunk media (steps_of s d.who.caller) x; taken = option_map (taken_as d.result) d.taken }
+  brought_by d x = record { chunk = copied_chunk media (steps_of s d.who.caller) x; taken = option_map (taken_as d.result) d.taken; received = received_by x d.received }
 
   -- what a step on media came to, after these variables; none of any other step
   abbrev pub came_of : Deed → List (Option Medium) → Option Came
@@ -90,7 +93,7 @@ results_alone (suc c) rs = [] ∷ results_alone c rs
 
 -- what a caller knows alone: its results so far, and the codecs' histories as far as it has seen them
 abbrev pub known_by : ℕ → List StepResult → List (List Entry) → Recorded
-known_by c rs hs = record { callers = results_alone c rs; codecs = hs; pool = []; slots = [] }
+known_by c rs hs = record { callers = results_alone c rs; codecs = hs; pool = []; slots = []; received = none_received }
 
 -- each history goes on
 abbrev pub GoOn : List (List Entry) → List (List Entry) → Type 0
@@ -112,7 +115,8 @@ HasWaited (step.Await promise) r = HasEnded r
 HasWaited x r = Unit {0}
 
 -- A deed is what its step asks for, after these variables and these results of its caller, by the codecs' histories so far: its
--- result is that of its own rule, its call stands where that says, with what the step gives, and an output that it took is that of its codec.
+-- result is that of its own rule, its call stands where that says, with what the step gives, an output that it took is that of its codec,
+-- and only a step that receives received something.
 pub record IsDeed (s : ScriptData) (media : List (List Chunk)) (hs : List (List Entry)) (rs : List StepResult) (vs : List (Option Medium)) (d : Deed) : Type 0 where
   pub result : IsResultOf s (known_by d.who.caller rs hs) d.who d.step d.result
   pub shows : LookShows s (known_by d.who.caller rs hs) d.who.caller d.step d.result
@@ -121,6 +125,7 @@ pub record IsDeed (s : ScriptData) (media : List (List Chunk)) (hs : List (List 
   pub stands : StandsAs hs d.who d.call (made_at d.result)
   pub arguments : IfSome d.call (λ x. HasArguments s media vs d.who.caller x d.step)
   pub taken : option_map (taken_as d.result) d.taken ≡ taken_by s (known_by d.who.caller rs hs) (Some d.result)
+  pub received : port_received d.step ≡ None → d.received ≡ None
 
 -- A deed of a caller with some deeds before it: the script's next step, and as histories were that have gone on since. A look saw no
 -- more than these.
@@ -132,8 +137,9 @@ pub record IsDeedAfter (s : ScriptData) (media : List (List Chunk)) (c : ℕ) (h
   pub sees : (k n : ℕ) → look_of d.result ≡ Some (k, n) → n ≤ length (at k known)
   pub is : IsDeed s media known (results_of before) (variables_after s media before) d
 
--- These are the deeds of the first steps of a caller, by the codecs' histories so far; the places of its calls rise, and each look
--- saw what its caller did before.
+-- These are the deeds of the first steps of a caller, by the codecs' histories so far; the places of its calls rise, each look saw
+-- what its caller did before, and their times rise.
 pub record AreDeeds (s : ScriptData) (media : List (List Chunk)) (c : ℕ) (hs : List (List Entry)) (ds : List Deed) : Type 0 where
   pub each : (j : ℕ) (d : Deed) → slice_get ds j ≡ Some d → IsDeedAfter s media c hs (take j ds) d
   pub climbs : (k : ℕ) → Climbs k 0 (map mark_of (results_of ds)) (length (at k hs))
+  pub rise : (i j : ℕ) (d e : Deed) → i < j → slice_get ds i ≡ Some d → slice_get ds j ≡ Some e → d.time < e.time

@@ -8,6 +8,7 @@ mod encodes;
 mod lending;
 mod looks;
 mod media;
+mod ports;
 mod running;
 mod steps;
 mod takes;

@@ -1,5 +1,5 @@
 // Steps of callers on media of their own.
-ghost use Rattle.std.specs.Prelude.{ℕ, ◌≡◌, ◌∷◌, [], None, Some, IfOk, OnErr, length};
+ghost use Rattle.std.specs.Prelude.{ℕ, ◌≡◌, ◌∷◌, [], None, Some, false, IfOk, OnErr, length};
 ghost use Rattle.shared_pool.specs.Refs.{IsPoolRef};
 ghost use Rattle.codec_desk.specs.Clocks.{EndsAt};
 ghost use Rattle.codec_desk.specs.Desks.{SitAt};
@@ -8,7 +8,7 @@ ghost use Rattle.codec_desk.specs.Runs.{EachRunsNone};
 ghost use Rattle.script_types.specs.Names.{called, taken_from};
 ghost use Rattle.script_types.specs.declared.steps.Step.TheVariants as step;
 ghost use Rattle.media_variables.specs.Held.{AreOf, seen_in};
-ghost use Rattle.media_variables.specs.Variables.{chunk_in};
+ghost use Rattle.media_variables.specs.Variables.{chunk_in, uses_port};
 ghost use Rattle.run_model.specs.Recorded.{copied_chunk, steps_of};
 ghost use Rattle.desk_callers.specs.Acts.{StaySeats, Did};
 
@@ -52,8 +52,8 @@ fn copied_chunk(
     }
 }
 
-/// A step of a caller on media of its own: it makes one entry of the pool, or none, and no call. Where memory is wanted none was
-/// made, and the variables are as they were.
+/// A step of a caller on media of its own that uses no port: it makes the entries of the pool that it calls for, and no call.
+/// Where memory is wanted none was made, and the variables are as they were.
 pub fn media_step<C: Coder, R: Wait>(
     rt: &R,
     alloc: Global,
@@ -71,6 +71,7 @@ pub fn media_step<C: Coder, R: Wait>(
     requires steps { steps_of script.now who.caller ≡ steps.now }
     requires takes { taken_from (step.Media asked.now) ≡ None }
     requires calls { called (step.Media asked.now) ≡ None }
+    requires ports { uses_port asked.now ≡ false }
     requires held { AreOf (IsPoolRef desk.now.pool) variables.old }
     ensures sits { SitAt desk.now seats.new }
     ensures runs { EachRunsNone desk.now.codecs.items seats.old.codecs.items
