@@ -1,0 +1,6 @@
+mod Deeds
+mod Delivering
+mod Matching
+mod Ranking
+mod Told
+mod Weights
