@@ -26,7 +26,7 @@ use Rattle.report_text.specs.declared.result.StepResult.{StepResult}
 use Rattle.media_variables.specs.Variables.{Medium, Came}
 use Rattle.media_accounts.specs.Accounts.{step_by, own_in, own_of, came_in}
 use Rattle.run_model.specs.Recorded.{Recorded, opening_at, steps_of}
-use Rattle.run_model.specs.Fits.{recorded_of, result_in, entry_in, step_in, mark_of, marks_of, variables_at, came_at, brought_to, made_steps, HasArguments, IsLocalAnswer, IsResultOf, LookShows, LooksAreIn, LocalsAreIn}
+use Rattle.run_model.specs.Fits.{result_in, entry_in, step_in, mark_of, marks_of, variables_at, came_at, brought_to, made_steps, HasArguments, IsLocalAnswer, IsResultOf, LookShows, LooksAreIn, LocalsAreIn}
 use Rattle.run_model.specs.FitsLaws.{made_at}
 use Rattle.run_model.specs.declared.run.CallerTrace.{CallerTrace}
 use Rattle.run_model.specs.declared.run.Run.{Run}
@@ -35,8 +35,10 @@ use Rattle.run_laws.specs.Fits.{ThreadsMade}
 use Rattle.run_laws.specs.Paid.{histories_of}
 use Rattle.run_laws.specs.PoolPaid.{PoolIsPaid}
 use Rattle.desk_callers.specs.Deeds.{Deed, StandsAs, AreDeeds, came_of, owns_of, results_of, variables_after}
+use Rattle.desk_callers.specs.PortDeeds.{received_in}
+use Rattle.port_laws.specs.PortAccounts.{CallersMade}
 use Rattle.wc_run.specs.Acted.{HaveActed}
-use Rattle.wc_run.specs.Made.{IsMade}
+use Rattle.wc_run.specs.Made.{IsMade, recorded_by}
 use Rattle.wc_run.proofs.Acts.{IsDeedIn, MadeAt, deed_in, made_there}
 use Rattle.wc_run.proofs.CallsTold.{AllTell, TellCalls, calls_told}
 use Rattle.wc_run.proofs.Going.{ReplaysTo}
@@ -71,7 +73,7 @@ abbrev results_in : List CallerTrace → List (List StepResult)
 results_in ts = map (λ t. t.results) ts
 
 acts_at : (s : ScriptData) (media : List (List Chunk)) (hs : List (List Entry)) (first i : ℕ) (ts : List CallerTrace) (all : List (List Deed)) → HaveActed s media hs first ts all → Acts s media hs (first + i) (at i (results_in ts)) (at i all)
-acts_at s media hs first i [] [] x = record { results = refl; are = record { each = λ j d is. absurd cc; climbs = λ k. omega arith } }
+acts_at s media hs first i [] [] x = record { results = refl; are = record { each = λ j d is. absurd cc; climbs = λ k. omega arith; rise = λ i j d e lt is. absurd cc } }
 acts_at s media hs first i [] (ds ∷ all) x = absurd x
 acts_at s media hs first i (t ∷ ts) [] x = absurd x
 acts_at s media hs first zero (t ∷ ts) (ds ∷ all) x =
@@ -95,7 +97,7 @@ all_tell s media hs c [] (ds ∷ all) x = absurd x
 all_tell s media hs c (t ∷ ts) [] x = absurd x
 all_tell s media hs c (t ∷ ts) (ds ∷ all) x = (x.0.results, tells s media hs c ds x.0.are, all_tell s media hs (suc c) ts all x.1)
 
-module _ (s : ScriptData) (media : List (List Chunk)) (w : Recorded) (legal : AllReplay s w.codecs) (deeds : List (List Deed)) (acts : (c : ℕ) → Acts s media w.codecs c (at c w.callers) (at c deeds)) (own : (c : ℕ) → own_in c w.pool ≡ owns_of s media (at c deeds)) where
+module _ (s : ScriptData) (media : List (List Chunk)) (w : Recorded) (legal : AllReplay s w.codecs) (deeds : List (List Deed)) (acts : (c : ℕ) → Acts s media w.codecs c (at c w.callers) (at c deeds)) (received : (c j : ℕ) → w.received c j ≡ received_in deeds c j) (own : (c : ℕ) → own_in c w.pool ≡ owns_of s media (at c deeds)) where
   -- the variables before a deed
   abbrev before : ℕ → ℕ → List (Option Medium)
   before c j = variables_after s media (take j (at c deeds))
@@ -109,7 +111,7 @@ module _ (s : ScriptData) (media : List (List Chunk)) (w : Recorded) (legal : Al
   variables_here : (c j : ℕ) (d : Deed) → slice_get (at c deeds) j ≡ Some d → variables_at s media w c j ≡ before c j
   variables_here c j d is =
       let lt = slice_get_within (at c deeds) j d is in
-      variables_same s media w c (at c deeds) (acts c).results (own c) (deed_here c) j (omega (arith, lt))
+      variables_same s media w c (at c deeds) (acts c).results (received c) (own c) (deed_here c) j (omega (arith, lt))
 
   -- ---- its calls
 
@@ -159,17 +161,23 @@ module _ (s : ScriptData) (media : List (List Chunk)) (w : Recorded) (legal : Al
       let d : Deed = m.deed in
       let y = deed_here c j d m.there in
       let same : d.step ≡ x = some_same d.step x (sym y.step ∙ step) in
-      let came : came_at s media w c j ≡ came_of s media d (before c j) = came_deed s media w c (at c deeds) (acts c).results (own c) (deed_here c) j d m.there in
+      let came : came_at s media w c j ≡ came_of s media d (before c j) = came_deed s media w c (at c deeds) (acts c).results (received c) (own c) (deed_here c) j d m.there in
       let variables = variables_here c j d m.there in
       subst (λ (z : (List (Option Medium) × Option Came) × (Step × StepResult)). IsLocalAnswer s media z.0.0 z.0.1 c z.1.0 z.1.1) (λ i. ((sym variables i, sym came i), (same i, m.result i))) y.answers
+
+  -- ---- ports
+
+  pub callers_made : CallersMade s media w.codecs deeds w
+  callers_made = record { are = λ c. (acts c).are; results = λ c. (acts c).results; received = received; variables = λ c j d is. variables_here c j d is }
 
 -- ---- the whole run
 
 -- what callers did, by all that was recorded
-record AllDid (s : ScriptData) (media : List (List Chunk)) (w : Recorded) : Type 0 where
+record AllDid (s : ScriptData) (media : List (List Chunk)) (deeds : List (List Deed)) (w : Recorded) : Type 0 where
   pub callers : CallersAnswer s media w
   pub looks : LooksAreIn s w
   pub locals : LocalsAreIn s media w
+  pub made : CallersMade s media w.codecs deeds w
   pub own : (c : ℕ) → own_in c w.pool ≡ own_of (came_in (steps_of s) (brought_to s media w) w.pool c) (made_steps w c)
 
 -- the pool has of each caller what its deeds did to it, in order
@@ -177,27 +185,32 @@ abbrev pub OwnsAre : ScriptData → List (List Chunk) → List (List Deed) → L
 OwnsAre s media deeds pool = (c : ℕ) → own_in c pool ≡ owns_of s media (at c deeds)
 
 module _ (s : ScriptData) (media : List (List Chunk)) (made : List CoderId) (run : Run) (x : IsMade s media made run) where
-  all_did : OwnsAre s media x.deeds run.pool → AllDid s media (recorded_of run)
+  all_did : OwnsAre s media x.deeds run.pool → AllDid s media x.deeds (recorded_by x.deeds run)
   all_did own =
-      let w : Recorded = recorded_of run in
+      let w : Recorded = recorded_by x.deeds run in
+      let received : (c j : ℕ) → w.received c j ≡ received_in x.deeds c j = λ c j. refl in
       let legal : AllReplay s w.codecs = subst (AllReplay s) (sym x.codecs) (all_replay s x.logs x.logs_are) in
       let acts : (c : ℕ) → Acts s media w.codecs c (at c w.callers) (at c x.deeds) = λ c. (let z : 0 + c ≡ c = omega arith in subst (λ (n : ℕ). Acts s media w.codecs n (at c w.callers) (at c x.deeds)) z (acts_at s media w.codecs 0 c run.callers x.deeds x.acted)) in
       let calls = calls_told (opening_at s) x.logs w.callers x.deeds (all_tell s media w.codecs 0 run.callers x.deeds x.acted) x.calls in
       record {
         callers = record {
-          made = each_made s media w legal x.deeds acts own;
-          given = each_given s media w legal x.deeds acts own;
+          made = each_made s media w legal x.deeds acts received own;
+          given = each_given s media w legal x.deeds acts received own;
           calls = subst (λ (hs : List (List Entry)). SameBag (all_named 0 hs) (all_told 0 (marks_of w))) (sym x.codecs) calls;
         };
-        looks = looks_in s media w legal x.deeds acts own;
-        locals = locals_in s media w legal x.deeds acts own;
-        own = λ c. own_called s media w c (at c x.deeds) (acts c).results (own c) (deed_in s media w c (at c x.deeds) legal (acts c).results (acts c).are);
+        looks = looks_in s media w legal x.deeds acts received own;
+        locals = locals_in s media w legal x.deeds acts received own;
+        made = callers_made s media w legal x.deeds acts received own;
+        own = λ c. own_called s media w c (at c x.deeds) (acts c).results (received c) (own c) (deed_in s media w c (at c x.deeds) legal (acts c).results (acts c).are);
       }
+
+  pub delivers : CallersMade s media (recorded_by x.deeds run).codecs x.deeds (recorded_by x.deeds run)
+  delivers = (all_did x.own).made
 
   pool_paid : PoolIsPaid (opening_at s) x.logs run.pool
   pool_paid = record { logs_are = x.logs_are; causes = λ k place. (x.media_causes k place ∙ done_by_entry k place run.pool) }
 
-  pub threads_made : ThreadsMade s media made x.logs (recorded_of run)
+  pub threads_made : ThreadsMade s media made x.logs (recorded_by x.deeds run)
   threads_made =
       let all = all_did x.own in
       record {

@@ -4,6 +4,7 @@ use Rattle.std.specs.Prelude.{slice_get}
 use Rattle.std.proofs.lemmas.Option.{slice_get_within}
 use Rattle.wc_chunk.specs.declared.chunk.Chunk.{Chunk}
 use Rattle.script_types.specs.declared.script.ScriptData.{ScriptData}
+use Rattle.shared_port.specs.Ports.{PortId}
 use Rattle.work_moments.specs.Moments.{Telling, may_give}
 use Rattle.codec_desk.specs.declared.desk.Desk.{Desk}
 use Rattle.codec_desk.specs.declared.desk.Seats.{Seats}
@@ -34,22 +35,22 @@ module _ {C : Type 0} (desk : Desk C) where
 
 -- ---- jobs that were done
 
-module _ {C K G : Type 0} (told : K → Telling) (s : ScriptData) (media : List (List Chunk)) (desk : Desk C) where
-  pub all_ready : (before after : List (Job C K G)) → length after ≡ length before → AreDone told s media desk before after → AreReady desk after
+module _ {C K G : Type 0} (told : K → Telling) (s : ScriptData) (media : List (List Chunk)) (desk : Desk C) (ports : List PortId) where
+  pub all_ready : (before after : List (Job C K G)) → length after ≡ length before → AreDone told s media desk ports before after → AreReady desk ports after
   all_ready before after many done i job at =
       let was = get_there before i (subst (λ (n : ℕ). i < n) many (slice_get_within after i job at)) in
       (done i was.0 job was.1 at).ready
 
-  pub all_done : (workers : ℕ) (before after : List (Job C K G)) → length after ≡ length before → AreDone told s media desk before after → ((i : ℕ) (job : Job C K G) → slice_get before i ≡ Some job → job.role ≡ role_at workers i) → AllDone s media desk workers after
+  pub all_done : (workers : ℕ) (before after : List (Job C K G)) → length after ≡ length before → AreDone told s media desk ports before after → ((i : ℕ) (job : Job C K G) → slice_get before i ≡ Some job → job.role ≡ role_at workers i) → AllDone s media desk workers after
   all_done workers before after many done roles i job at none =
       let was = get_there before i (subst (λ (n : ℕ). i < n) many (slice_get_within after i job at)) in
       subst (λ (r : Role). HasDone s media desk r job) (roles i was.0 was.1) ((done i was.0 job was.1 at).done none)
 
-module _ {C K G : Type 0} (desk : Desk C) where
-  pub new_ready : (jobs : List (Job C K G)) → AreNew desk jobs → AreReady desk jobs
+module _ {C K G : Type 0} (desk : Desk C) (ports : List PortId) where
+  pub new_ready : (jobs : List (Job C K G)) → AreNew desk ports jobs → AreReady desk ports jobs
   new_ready jobs new i job at = (new i job at).ready
 
-  pub new_in_time : (fits : ℕ → Bool) (jobs : List (Job C K G)) → AreNew desk jobs → AreInTime desk fits jobs
+  pub new_in_time : (fits : ℕ → Bool) (jobs : List (Job C K G)) → AreNew desk ports jobs → AreInTime desk fits jobs
   new_in_time fits jobs new i job at = (new i job at).timed fits
 
 -- ---- clocks
@@ -106,8 +107,8 @@ fit_first told all ks k n is =
 
 -- ---- jobs that were done, in time
 
-module _ {C K G : Type 0} (told : K → Telling) (s : ScriptData) (media : List (List Chunk)) (desk : Desk C) where
-  pub all_in_time : TimeStands C → (fits : ℕ → Bool) (before after : List (Job C K G)) → length after ≡ length before → AreNew desk before → FitEach fits (map (λ j. told j.watch.clock) before) → AreDone told s media desk before after → AreInTime desk fits after
+module _ {C K G : Type 0} (told : K → Telling) (s : ScriptData) (media : List (List Chunk)) (desk : Desk C) (ports : List PortId) where
+  pub all_in_time : TimeStands C → (fits : ℕ → Bool) (before after : List (Job C K G)) → length after ≡ length before → AreNew desk ports before → FitEach fits (map (λ j. told j.watch.clock) before) → AreDone told s media desk ports before after → AreInTime desk fits after
   all_in_time law fits before after many new fit done i job at =
       let was = get_there before i (subst (λ (n : ℕ). i < n) many (slice_get_within after i job at)) in
       law.kept fits desk was.0.seats job.seats (told was.0.watch.clock) (told job.watch.clock) (done i was.0 job was.1 at).timed

@@ -84,6 +84,7 @@ module _ (s : ScriptData) (media : List (List Chunk)) where
   deeds_later c hs later ds goes x = record {
     each = λ j d there. deed_later c hs later (take j ds) d goes (x.each j d there);
     climbs = λ k. climbs_on k 0 (map mark_of (results_of ds)) (length (at k hs)) (length (at k later)) (go_longer hs later goes k) (x.climbs k);
+    rise = x.rise;
   }
 
   pub acted_later : (c : ℕ) (hs later : List (List Entry)) (rs : List StepResult) (ds : List Deed) → GoOn hs later → HasActed s media hs c rs ds → HasActed s media later c rs ds

@@ -1,5 +1,7 @@
 mod Lasting
 mod Owning
+mod Passes
+mod Delivered
 mod Paying
 mod Together
 mod JobLists

@@ -18,7 +18,7 @@ use Rattle.media_variables.specs.Variables.{Medium, Came, Brought, media_came}
 use Rattle.media_accounts.specs.Accounts.{step_by, step_op, done_by, media_of, numbers_of, ops_by, own_in, own_of, variables_by, without_last, came_on, came_in}
 use Rattle.media_accounts.specs.OwnLaws.{own_owed}
 use Rattle.run_model.specs.Recorded.{Recorded, copied_chunk, steps_of}
-use Rattle.run_model.specs.Fits.{result_in, taken_by, brought_to, variables_at, came_at, made_steps}
+use Rattle.run_model.specs.Fits.{result_in, taken_by, received_by, brought_to, variables_at, came_at, made_steps}
 use Rattle.desk_callers.specs.Deeds.{Deed, brought_by, came_of, after_deed, own_due, owns_of, results_of, taken_as, variables_after}
 use Rattle.wc_run.proofs.Acts.{IsDeedIn, result_there}
 use Rattle.wc_run.proofs.Numbers.{came_told}
@@ -38,7 +38,7 @@ own_same f g (suc n) same =
     let here = same n (omega arith) in
     (λ i. rest i ++ map (step_op n) (done_by (here i)))
 
-module _ (s : ScriptData) (media : List (List Chunk)) (w : Recorded) (c : ℕ) (ds : List Deed) (results : at c w.callers ≡ results_of ds) (own : own_in c w.pool ≡ owns_of s media ds)
+module _ (s : ScriptData) (media : List (List Chunk)) (w : Recorded) (c : ℕ) (ds : List Deed) (results : at c w.callers ≡ results_of ds) (received : (j : ℕ) → w.received c j ≡ option_and_then (λ d. d.received) (slice_get ds j)) (own : own_in c w.pool ≡ owns_of s media ds)
     (each : (j : ℕ) (d : Deed) → slice_get ds j ≡ Some d → IsDeedIn s media w c (variables_after s media (take j ds)) j d) where
   -- the variables before the deed with this number
   abbrev before : ℕ → List (Option Medium)
@@ -80,7 +80,8 @@ module _ (s : ScriptData) (media : List (List Chunk)) (w : Recorded) (c : ℕ) (
       let caller : c ≡ d.who.caller = sym (ap (λ (y : Who). y.caller) here.who) in
       let made : result_in w c j ≡ Some d.result = ap (λ (l : List StepResult). slice_get l j) results ∙ result_there ds j d there in
       let taken : taken_by s w (result_in w c j) ≡ option_map (taken_as d.result) d.taken = ap (taken_by s w) made ∙ sym here.taken in
-      (λ i. record { chunk = copied_chunk media (steps_of s (caller i)) x; taken = taken i })
+      let got : w.received c j ≡ d.received = received j ∙ ap (λ (o : Option Deed). option_and_then (λ (y : Deed). y.received) o) there in
+      (λ i. record { chunk = copied_chunk media (steps_of s (caller i)) x; taken = taken i; received = received_by x (got i) })
 
   -- a step comes to what its deed came to
   came_same : (j : ℕ) (d : Deed) → slice_get ds j ≡ Some d → came_on steps brought w.pool c j (before j) ≡ came_of s media d (before j)

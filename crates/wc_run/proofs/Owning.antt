@@ -167,11 +167,11 @@ module _ (c : ℕ) where
 
 -- ---- lists of deeds, and one more
 
-at_end : {X : Type 0} (ls : List (List X)) (l : List X) → at (length ls) (ls ++ l ∷ []) ≡ l
+pub at_end : {X : Type 0} (ls : List (List X)) (l : List X) → at (length ls) (ls ++ l ∷ []) ≡ l
 at_end [] l = refl
 at_end (m ∷ ls) l = at_end ls l
 
-at_other : {X : Type 0} (k : ℕ) (ls : List (List X)) (l : List X) → k ≢ length ls → at k (ls ++ l ∷ []) ≡ at k ls
+pub at_other : {X : Type 0} (k : ℕ) (ls : List (List X)) (l : List X) → k ≢ length ls → at k (ls ++ l ∷ []) ≡ at k ls
 at_other zero [] l other = absurd (other refl)
 at_other (suc k) [] l other = refl
 at_other zero (m ∷ ls) l other = refl

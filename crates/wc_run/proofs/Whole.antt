@@ -33,19 +33,22 @@ use Rattle.desk_threads.specs.Runs.{EachIsQuiet}
 use Rattle.desk_run.specs.declared.finishing.Finished.{Finished}
 use Rattle.desk_run.specs.Finished.{IsFinished}
 use Rattle.script_types.specs.declared.script.ScriptData.{ScriptData}
+use Rattle.order_laws.specs.Sound.{IsSound}
 use Rattle.run_model.specs.declared.run.Run.{Run}
 use Rattle.run_model.specs.declared.run.CallerTrace.{CallerTrace}
 use Rattle.run_model.specs.declared.run.CodecTrace.{CodecTrace}
-use Rattle.run_model.specs.Fits.{AreLegalTraces, IsLegalRun, recorded_of}
+use Rattle.run_model.specs.Fits.{AreLegalTraces, IsLegalRun}
 use Rattle.run_model.specs.Recorded.{Recorded, opening_at}
 use Rattle.media_accounts.specs.Accounts.{own_in}
+use Rattle.desk_callers.specs.Deeds.{Deed}
+use Rattle.port_laws.specs.PortAccounts.{PortsMade}
 use Rattle.run_laws.specs.Fits.{AreAtRest}
 use Rattle.run_laws.specs.Paid.{by_cause, histories_of}
 use Rattle.run_laws.specs.Told.{LogTellsEnds}
 use Rattle.run_laws.specs.Quiet.{IsAtRest}
 use Rattle.run_laws.specs.Reclaims.{IsTimely, in_logs}
 use Rattle.wc_run.specs.Acted.{HaveActed, calls_of_all}
-use Rattle.wc_run.specs.Made.{IsMade}
+use Rattle.wc_run.specs.Made.{IsMade, recorded_by}
 use Rattle.wc_run.specs.Owned.{owns_at}
 use Rattle.wc_run.specs.Runnable.{IsDeskOf}
 use Rattle.wc_run.specs.Threads.{HaveRun}
@@ -80,23 +83,23 @@ module _ {C : Type 0} where
   }
 
   -- the recorded histories are those of the logs that the seats have seen
-  histories_left : (desk : Desk C) (b : Seats C) (f : Finished C) (ts : List CallerTrace) (run : Run) → IsFinished desk b f → IsLeftBy ts f run → (recorded_of run).codecs ≡ histories_of (logs_in b.codecs.items)
-  histories_left desk b f ts run finished left = ap (map (λ (t : CodecTrace). t.entries)) left.codecs ∙ entries_are desk.codecs.items b.codecs.items f.codecs.items finished.codecs
+  histories_left : (deeds : List (List Deed)) (desk : Desk C) (b : Seats C) (f : Finished C) (ts : List CallerTrace) (run : Run) → IsFinished desk b f → IsLeftBy ts f run → (recorded_by deeds run).codecs ≡ histories_of (logs_in b.codecs.items)
+  histories_left deeds desk b f ts run finished left = ap (map (λ (t : CodecTrace). t.entries)) left.codecs ∙ entries_are desk.codecs.items b.codecs.items f.codecs.items finished.codecs
 
-  pub is_timely : MomentsFit → (fits : ℕ → Bool) (desk : Desk C) (b : Seats C) (f : Finished C) (ts : List CallerTrace) (run : Run) → SitAt desk b → IsFinished desk b f → IsLeftBy ts f run → WholeInTime fits desk b → IsTimely fits (recorded_of run).codecs
-  is_timely law fits desk b f ts run sits finished left time = subst (IsTimely fits) (sym (histories_left desk b f ts run finished left)) (law fits (logs_in b.codecs.items) (logs_count (untimely fits) desk.pool desk.slots.id 0 desk.codecs.items b.codecs.items sits.codecs ∙ time.timely))
+  pub is_timely : MomentsFit → (fits : ℕ → Bool) (deeds : List (List Deed)) (desk : Desk C) (b : Seats C) (f : Finished C) (ts : List CallerTrace) (run : Run) → SitAt desk b → IsFinished desk b f → IsLeftBy ts f run → WholeInTime fits desk b → IsTimely fits (recorded_by deeds run).codecs
+  is_timely law fits deeds desk b f ts run sits finished left time = subst (IsTimely fits) (sym (histories_left deeds desk b f ts run finished left)) (law fits (logs_in b.codecs.items) (logs_count (untimely fits) desk.pool desk.slots.id 0 desk.codecs.items b.codecs.items sits.codecs ∙ time.timely))
 
   pub is_made : CodecsRest → EndsTell → (s : ScriptData) (media : List (List Chunk)) (made : List CoderId) (desk : Desk C) (b : Seats C) (f : Finished C) (ts : List CallerTrace) (run : Run)
-      → Opens s.codecs desk.codecs.items → SitAt desk b → desk.slots.made ≡ made → IsFinished desk b f → AllBalanced desk b → WholeInOrder desk b → EachIsQuiet desk.codecs.items b.codecs.items
-      → (x : HaveRun s media desk ts b) → SameBag (all_calls desk.codecs.items b.codecs.items) (calls_of_all x.deeds) → tally_all reclaims desk.codecs.items b.codecs.items ≤ tally_all refusals desk.codecs.items b.codecs.items → AllBy b.pool.me.0.numbers b.pool.me.0.log → IsLeftBy ts f run → IsMade s media made run
-  is_made rest tell s media made desk b f ts run o sits made_is finished balanced whole quiet x calls few all left =
+      → IsSound s → Opens s.codecs desk.codecs.items → SitAt desk b → desk.slots.made ≡ made → IsFinished desk b f → AllBalanced desk b → WholeInOrder desk b → EachIsQuiet desk.codecs.items b.codecs.items
+      → (x : HaveRun s media (PortsMade s media) desk ts b) → SameBag (all_calls desk.codecs.items b.codecs.items) (calls_of_all x.deeds) → tally_all reclaims desk.codecs.items b.codecs.items ≤ tally_all refusals desk.codecs.items b.codecs.items → AllBy b.pool.me.0.numbers b.pool.me.0.log → IsLeftBy ts f run → IsMade s media made run
+  is_made rest tell s media made desk b f ts run sound o sits made_is finished balanced whole quiet x calls few all left =
       let xs = desk.codecs.items in
       let us = b.codecs.items in
       let sl = b.slots.me.0.log in
       let pl = b.pool.me.0.log in
       let logs : List (Log Event) = logs_in us in
       let well = all_well desk.pool desk.slots.id sl pl 0 xs us f.codecs.items sits.codecs finished.codecs quiet whole in
-      let recorded : (recorded_of run).codecs ≡ histories_of logs = histories_left desk b f ts run finished left in
+      let recorded : (recorded_by x.deeds run).codecs ≡ histories_of logs = histories_left x.deeds desk b f ts run finished left in
       let legal = logs_legal desk.pool desk.slots.id sl pl s.codecs xs us o well in
       let openings : (k : ℕ) (y : Shared) → slice_get xs k ≡ Some y → y.opening ≡ opening_at s (0 + k) = λ k y there. opening_there s.codecs xs k y o there ∙ (let e : k ≡ 0 + k = omega arith in ap (opening_at s) e) in
       let slots : run.slots ≡ entries_of sl = left.slots ∙ finished.slots in
@@ -106,10 +109,12 @@ module _ {C : Type 0} where
       let callers_as = sym left.callers_are in
       let legal_slots : is_legal_slots f.slots.made f.slots.history ≡ true = left.slots_are_legal in
       record {
+        sound = sound;
+        deeds = x.deeds;
         logs = logs;
         codecs = recorded;
         logs_are = legal;
-        quiet = rest s logs (recorded_of run) recorded legal (logs_rest desk.pool desk.slots.id sl pl s.codecs xs us o well);
+        quiet = rest s logs (recorded_by x.deeds run) recorded legal (logs_rest desk.pool desk.slots.id sl pl s.codecs xs us o well);
         slots_are_legal = (λ i. is_legal_slots (sym made_as i) (left.slots i)) ∙ legal_slots;
         pool_is_legal = ap is_legal_pool left.pool ∙ left.pool_is_legal;
         slots_called = λ t. sym (ap (sum_by t) (slots_same (opening_at s) 0 desk.pool desk.slots.id xs us sits.codecs openings)) ∙ (balanced.slots t ∙ sym (ap (sum_by t) slots));
@@ -125,8 +130,8 @@ module _ {C : Type 0} where
         told = λ k lt. tell k (opening_at s k) (at k logs) run.slots (legal k lt) (subst (λ (l : List SlotEntry). AreTold l (all_dues end_dues k (opening_track (opening_at s k)) (at k logs))) (sym slots) (ends_told desk.pool desk.slots.id sl pl s.codecs xs us o well k lt))
             (λ place. slots_in_order desk.pool desk.slots.id sl pl s.codecs xs us o well k place lt ∙ sym (ap (flat_map (slot_at k place)) slots));
         few = (let a = logs_count reclaims desk.pool desk.slots.id 0 xs us sits.codecs in let c = logs_count refusals desk.pool desk.slots.id 0 xs us sits.codecs in omega (arith, few, a, c));
-        deeds = x.deeds;
         acted = subst (λ (z : List (List Entry) × List CallerTrace). HaveActed s media z.0 0 z.1 x.deeds) (λ i. (acted_as i, callers_as i)) x.acted;
         calls = λ t. sym (ap (sum_by t) (calls_same (opening_at s) 0 desk.pool desk.slots.id xs us sits.codecs openings)) ∙ calls t;
         own = λ c. ap (own_in c) pool ∙ owned_all (owns_at s media x.deeds) b all x.own c;
+        ports = x.ports;
       }

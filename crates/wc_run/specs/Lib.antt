@@ -3,6 +3,7 @@ pub mod Runnable
 pub mod Paid
 pub mod Acted
 pub mod Owned
+pub mod Ports
 pub mod Jobs
 pub mod Threads
 pub mod Traces

@@ -13,6 +13,8 @@ use media_variables::Variables;
 use report_text::StepResult;
 use script_types::ScriptData;
 use shared_codec::{dues_add_up, order_is_kept};
+use shared_port::{PortPass, SharedPort};
+use shared_variables::Parcel;
 use std::alloc::Global;
 use std::sync::Wait;
 use std::sync::atomic::{AtomicU64, Ordering};
@@ -32,13 +34,14 @@ pub enum Role {
     Caller(u32),
 }
 
-/// The job of one thread: its role, its seats at the desk, and its clock and gate. A caller has the results of its steps, its variables, and
-/// whether it wanted memory.
+/// The job of one thread: its role, its seats at the desk, its clock and gate, and a pass of each port. A caller has the results of its
+/// steps, its variables, and whether it wanted memory.
 #[derive(Drop)]
 pub struct Job<C: Coder, K, G> {
     pub role: Role,
     pub seats: Seats<C>,
     pub watch: Watch<K, G>,
+    pub passes: Vec<PortPass<Parcel>>,
     pub results: Vec<StepResult>,
     pub variables: Variables,
     pub wanted: bool,
@@ -51,13 +54,15 @@ fn make_steps<C: Coder, K: Clock, G: Gate, R: Wait>(
     desk: &Desk<C>,
     script: &ScriptData,
     media: &[List<Chunk>],
+    ports: &[SharedPort<Parcel>],
     caller: u32,
     job: &mut Job<C, K, G>,
 )
     requires runnable { IsRunnable script.now }
     requires desk { IsDeskOf script.now desk.now }
-    requires new { IsNew desk.now job.old }
-    ensures ready { IsReady desk.now job.new }
+    requires ports { length script.now.ports ≡ length ports.now }
+    requires new { IsNew desk.now ports.now job.old }
+    ensures ready { IsReady desk.now ports.now job.new }
     ensures paid { job.new.wanted ≡ false → IsPaid desk.now job.new.seats }
     ensures did { job.new.wanted ≡ false
         → CallerDid script.now media.now desk.now caller job.new }
@@ -73,6 +78,8 @@ fn make_steps<C: Coder, K: Clock, G: Gate, R: Wait>(
         &mut job.seats,
         script,
         media,
+        ports,
+        &mut job.passes,
         caller,
         &mut job.results,
         &mut job.variables,
@@ -91,13 +98,15 @@ fn run_job<C: Coder, K: Clock, G: Gate, R: Wait>(
     desk: &Desk<C>,
     script: &ScriptData,
     media: &[List<Chunk>],
+    ports: &[SharedPort<Parcel>],
     callers: &AtomicU64,
     job: &mut Job<C, K, G>,
 )
     requires runnable { IsRunnable script.now }
     requires desk { IsDeskOf script.now desk.now }
-    requires new { IsNew desk.now job.old }
-    ensures { IsDone K.told script.now media.now desk.now job.old job.new }
+    requires ports { length script.now.ports ≡ length ports.now }
+    requires new { IsNew desk.now ports.now job.old }
+    ensures { IsDone K.told script.now media.now desk.now ports.now job.old job.new }
 {
     accounts_are_kept::<C>();
     order_stands::<C>();
@@ -113,7 +122,7 @@ fn run_job<C: Coder, K: Clock, G: Gate, R: Wait>(
             &mut job.watch.gate,
         ),
         Role::Caller(caller) => {
-            make_steps(rt, alloc, desk, script, media, caller, job);
+            make_steps(rt, alloc, desk, script, media, ports, caller, job);
             callers.fetch_sub(1, Ordering::SeqCst);
         }
     }
@@ -127,23 +136,27 @@ pub(crate) fn run_jobs<C: Coder, K: Clock + Send, G: Gate + Send, R: Threads + W
     desk: &Desk<C>,
     script: &ScriptData,
     media: &[List<Chunk>],
+    ports: &[SharedPort<Parcel>],
     callers: &AtomicU64,
     jobs: &mut [Job<C, K, G>],
 )
     requires runnable { IsRunnable script.now }
     requires desk { IsDeskOf script.now desk.now }
-    requires new { AreNew desk.now jobs.old }
+    requires ports { length script.now.ports ≡ length ports.now }
+    requires new { AreNew desk.now ports.now jobs.old }
     ensures many { length jobs.new ≡ length jobs.old }
-    ensures done { AreDone K.told script.now media.now desk.now jobs.old jobs.new }
+    ensures done { AreDone K.told script.now media.now desk.now ports.now jobs.old jobs.new }
 {
     if jobs.is_empty() {
         return;
     }
     let threads = jobs.len();
     let run = move |_place: usize, job: &mut Job<C, K, G>|
-        requires { IsRunnable script.now × (IsDeskOf script.now desk.now × IsNew desk.now job.now) }
+        requires { IsRunnable script.now × (IsDeskOf script.now desk.now
+            × ((length script.now.ports ≡ length ports.now) × IsNew desk.now ports.now job.now)) }
         ensures { IsDone K.told
-            script.entry.now media.entry.now desk.entry.now job.entry.now job.exit.now }
-    { run_job(rt, alloc, desk, script, media, callers, job) };
+            script.entry.now media.entry.now desk.entry.now ports.entry.now job.entry.now
+            job.exit.now }
+    { run_job(rt, alloc, desk, script, media, ports, callers, job) };
     thread::for_each_mut(rt, jobs, threads, &run);
 }

@@ -6,6 +6,7 @@ mod joining;
 mod laws;
 mod making;
 mod openings;
+mod ports;
 mod running;
 mod threads;
 mod traces;

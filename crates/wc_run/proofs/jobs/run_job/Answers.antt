@@ -22,10 +22,10 @@ returns-in-Turner g c =
     let a = c.args.job.now.seats in
     let b = c.turn_loop.new.seats in
     record {
-      ready = record { sits = e.sits; one = parts_after desk 1 a b was.ready.one e.settled; runs = e.runs was.ready.runs };
+      ready = record { sits = e.sits; passes = was.ready.passes; one = record { seats = parts_after desk 1 a b was.ready.one.seats e.settled; passes = was.ready.one.passes }; runs = e.runs was.ready.runs };
       done = λ none. subst (λ (r : Role). HasDone c.args.script.now c.args.media.now desk r (record c.args.job.now { seats = b })) (sym c.in-Turner.is) (record {
         paid = record { balanced = c.accounts_are_kept.ensures.kept desk a b e.settled was.paid.balanced; ordered = c.order_stands.ensures.kept desk a b e.settled was.paid.ordered };
-        did = record { calls = no_more desk a b [] e.calls was.called; owned = owned_settled desk none_owned a b e.settled was.owned };
+        did = record { calls = no_more desk a b [] e.calls was.called; owned = owned_settled desk none_owned a b e.settled was.owned; unused = was.unused };
       });
       timed = clocked_rest desk a b (g.K.Clock.told c.args.job.now.watch.clock) e.ends;
     }
@@ -38,10 +38,10 @@ returns-in-Worker g c =
     let a = c.args.job.now.seats in
     let b = c.item_loop.new.seats in
     record {
-      ready = record { sits = e.sits; one = parts_after desk 1 a b was.ready.one e.settled; runs = e.runs was.ready.runs };
+      ready = record { sits = e.sits; passes = was.ready.passes; one = record { seats = parts_after desk 1 a b was.ready.one.seats e.settled; passes = was.ready.one.passes }; runs = e.runs was.ready.runs };
       done = λ none. subst (λ (r : Role). HasDone c.args.script.now c.args.media.now desk r (record c.args.job.now { seats = b; watch = record { clock = c.item_loop.new.clock; gate = c.item_loop.new.gate } })) (sym c.in-Worker.is) (record {
         paid = record { balanced = c.accounts_are_kept.ensures.kept desk a b e.settled was.paid.balanced; ordered = c.order_stands.ensures.kept desk a b e.settled was.paid.ordered };
-        did = record { calls = no_more desk a b [] e.calls was.called; owned = owned_settled desk none_owned a b e.settled was.owned };
+        did = record { calls = no_more desk a b [] e.calls was.called; owned = owned_settled desk none_owned a b e.settled was.owned; unused = was.unused };
       });
       timed = e.timed;
     }

@@ -1,14 +1,15 @@
 use Rattle.std.proofs.Common.{rules, ℕ, ◌≡◌, ◌+◌, ◌-◌, false, List, length, refl, sym, ap, subst, ◌∙◌, arith}
-use Rattle.desk_threads.specs.Parts.{HaveParts}
 use Rattle.desk_threads.specs.Timely.{InTime}
 use Rattle.run_model.specs.declared.run.CallerTrace.{CallerTrace}
 use Rattle.wc_run.specs.declared.jobs.Job.{Job}
 use Rattle.wc_run.specs.declared.jobs.Role.{Role}
 use Rattle.wc_run.specs.Jobs.{IsReady, HasDone}
 use Rattle.wc_run.specs.Paid.{IsPaid}
+use Rattle.wc_run.specs.Ports.{HoldParts, KnowAll}
 use Rattle.wc_run.specs.Roles.{role_at, noted}
 use Rattle.wc_run.specs.Threads.{HaveRun}
-use Rattle.wc_run.proofs.Together.{join_more, run_none}
+use Rattle.wc_run.proofs.Passes.{parts_joined}
+use Rattle.wc_run.proofs.Together.{AreJoinedTo, join_more, run_none}
 use Rattle.wc_run.proofs.Lists.{From, from_start, noted_many}
 use Rattle.wc_run.proofs.joining.join_jobs.Goals as goal
 
@@ -23,9 +24,10 @@ loop-job-init g c =
       long = search rules;
       place = omega (arith, all);
       sits = c.requires.sits;
+      passes = c.requires.passes;
       parts = λ n has. (n, ap (λ (l : List J). n + length l) gives.0, has);
       runs = λ none. none;
-      rest = subst (λ (l : List J). From (λ i j. IsReady desk j) 0 l) (sym gives.0) (from_start (λ i j. IsReady desk j) c.args.jobs.items c.requires.ready);
+      rest = subst (λ (l : List J). From (λ i j. IsReady desk c.args.ports.now j) 0 l) (sym gives.0) (from_start (λ i j. IsReady desk c.args.ports.now j) c.args.jobs.items c.requires.ready);
       many = omega (arith, empty);
       room = refl;
       timed = λ fits time. (
@@ -35,7 +37,7 @@ loop-job-init g c =
       ran = λ s media done. (
         subst (λ (l : List J). From (λ i j. j.wanted ≡ false → HasDone s media desk (role_at c.args.workers i) j) 0 l) (sym gives.0)
             (from_start (λ i (j : J). j.wanted ≡ false → HasDone s media desk (role_at c.args.workers i) j) c.args.jobs.items done),
-        λ paid none own any. subst (λ (l : List CallerTrace). HaveRun s media desk l c.args.seats.now) (sym c.requires.empty) (run_none s media desk c.args.seats.now paid none own),
+        λ paid none own unused any. subst (λ (l : List CallerTrace). HaveRun s media (KnowAll s media c.args.passes.now.items) desk l c.args.seats.now) (sym c.requires.empty) (run_none s media desk c.args.seats.now c.args.passes.now.items unused paid none own),
       );
     }
 
@@ -45,7 +47,13 @@ join_seats-requires-clause-sits g c κs within = c.loop-job.invariant.sits
 pub join_seats-requires-clause-other : goal.join_seats-requires-clause-other
 join_seats-requires-clause-other g c κs within =
     let J = Job g.row.C.Denot g.row.K.Denot g.row.G.Denot in
-    (subst (λ (l : List J). From (λ i j. IsReady c.args.desk.now j) c.loop-job.place l) c.in-Some.ensures.steps.0 c.loop-job.invariant.rest).0.sits
+    (subst (λ (l : List J). From (λ i j. IsReady c.args.desk.now c.args.ports.now j) c.loop-job.place l) c.in-Some.ensures.steps.0 c.loop-job.invariant.rest).0.sits
+
+pub join_passes-requires : goal.join_passes-requires
+join_passes-requires g c =
+    let J = Job g.row.C.Denot g.row.K.Denot g.row.G.Denot in
+    let ready = (subst (λ (l : List J). From (λ i j. IsReady c.args.desk.now c.args.ports.now j) c.loop-job.place l) c.in-Some.ensures.steps.0 c.loop-job.invariant.rest).0 in
+    record { passes = (c.args.desk.now.pool, c.loop-job.invariant.passes, ready.passes) }
 
 pub role_at-requires : goal.role_at-requires
 role_at-requires g c =
@@ -80,16 +88,25 @@ loop-job-preserved g c =
     let steps = c.in-Some.ensures.steps.0 in
     let short = ap (λ (l : List J). length l) steps in
     let e = c.join_seats.ensures in
-    let ready = subst (λ (l : List J). From (λ i j. IsReady desk j) n l) steps i.rest in
+    let ready = subst (λ (l : List J). From (λ i j. IsReady desk c.args.ports.now j) n l) steps i.rest in
     let noted_as : c.note.new.traces.items ≡ noted (role_at w n) job.results.items ts = c.note.ensures.noted ∙ ap (λ (r : Role). noted r job.results.items ts) c.role_at.ensures in
     let count = ap (λ (l : List CallerTrace). length l) noted_as in
     let more = noted_many w n job.results.items ts i.many in
     let place = i.place in
+    let ps = c.loop-job.passes.items in
+    let qs = c.join_passes.new.passes.items in
+    let passes = c.join_passes.ensures.passes desk.pool i.passes in
+    let take : AreJoinedTo ps job.passes.items qs = record { many = i.passes.many ∙ sym passes.many; others = ready.0.passes.many ∙ sym passes.many; both = c.join_passes.ensures.joined } in
     record {
       long = omega (arith, short, c.in-Some.ensures.steps.1, i.long);
       place = omega (arith, short, place);
       sits = e.sits;
-      parts = λ k has. (let p = i.parts k has in let is = p.1 in (p.0 + 1, omega (arith, is, short), e.parts p.0 1 p.2 ready.0.one));
+      passes = passes;
+      parts = λ k has. (
+          let p = i.parts k has in
+          let is = p.1 in
+          (p.0 + 1, omega (arith, is, short), record { seats = e.parts p.0 1 p.2.seats ready.0.one.seats; passes = parts_joined p.0 1 ps job.passes.items qs take.many take.others take.both p.2.passes ready.0.one.passes })
+          );
       runs = λ none. e.runs (i.runs none) ready.0.runs;
       rest = ready.1;
       many = omega (arith, count, more);
@@ -103,18 +120,21 @@ loop-job-preserved g c =
           let r = i.ran s media done in
           let d = subst (λ (l : List J). From (λ i j. j.wanted ≡ false → HasDone s media desk (role_at w i) j) n l) steps r.0 in (
             d.1,
-            λ paid none own any. (
+            λ paid none own unused any. (
                 let both = c.either-any.ensures any in
-                let x : HaveRun s media desk ts a = r.1 paid none own both.0 in
+                let x : HaveRun s media (KnowAll s media ps) desk ts a = r.1 paid none own unused both.0 in
                 let y : HasDone s media desk (role_at w n) job = d.0 both.1 in
                 let now : IsPaid desk b = record { balanced = e.balanced x.paid.balanced y.paid.balanced; ordered = c.order_stands.ensures.joined desk a job.seats b e.joined x.paid.ordered y.paid.ordered } in
-                subst (λ (l : List CallerTrace). HaveRun s media desk l b) (sym noted_as) (join_more s media desk n w ts job a b i.many e.joined now y.did x)
+                subst (λ (l : List CallerTrace). HaveRun s media (KnowAll s media qs) desk l b) (sym noted_as) (join_more s media desk n w ts job a b ps qs i.many e.joined take now y.did x)
                 ),
           ));
     }
 
 pub returns-clause-sits : goal.returns-clause-sits
 returns-clause-sits g c = c.loop-job.invariant.sits
+
+pub returns-clause-passes : goal.returns-clause-passes
+returns-clause-passes g c = c.loop-job.invariant.passes
 
 pub returns-clause-parts : goal.returns-clause-parts
 returns-clause-parts g c n has =
@@ -123,7 +143,7 @@ returns-clause-parts g c n has =
     let none = c.in-None.ensures.steps.0 in
     let long = i.long in
     let is = p.1 in
-    subst (λ (m : ℕ). HaveParts m c.loop-job.seats) (omega (arith, none, long, is)) p.2
+    subst (λ (m : ℕ). HoldParts m c.loop-job.seats c.loop-job.passes.items) (omega (arith, none, long, is)) p.2
 
 pub returns-clause-runs : goal.returns-clause-runs
 returns-clause-runs g c none = c.loop-job.invariant.runs none
@@ -142,4 +162,4 @@ pub returns-clause-timed : goal.returns-clause-timed
 returns-clause-timed g c fits time x = (c.loop-job.invariant.timed fits time).1 x
 
 pub returns-clause-ran : goal.returns-clause-ran
-returns-clause-ran g c s media done none paid called own = (c.loop-job.invariant.ran s media done).1 paid called own none
+returns-clause-ran g c s media done none unused paid called own = (c.loop-job.invariant.ran s media done).1 paid called own unused none

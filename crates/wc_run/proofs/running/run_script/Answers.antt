@@ -1,9 +1,8 @@
-use Rattle.std.proofs.Common.{◌≡◌, ◌^◌, ℕ, List, map, length, refl, sym, ap, subst, ◌∙◌, arith}
+use Rattle.std.proofs.Common.{◌≡◌, ◌^◌, List, map, length, refl, sym, ap, subst, ◌∙◌, arith}
 use Rattle.std.proofs.lemmas.List.{length-map}
 use Rattle.std.proofs.lemmas.Result.{IfOk-weaker}
 use Rattle.codec_model.specs.declared.entry.Opening.{Opening}
 use Rattle.desk_run.specs.Opened.{MayOpen, HaveOpenings}
-use Rattle.desk_threads.specs.Parts.{HaveParts}
 use Rattle.run_model.specs.Fits.{IsLegalRun}
 use Rattle.run_model.specs.Recorded.{opening_of}
 use Rattle.wc_run.specs.Acted.{calls_of_all}
@@ -40,22 +39,13 @@ pub run_desk-ran-requires-clause-sits : goal.run_desk-ran-requires-clause-sits
 run_desk-ran-requires-clause-sits g c κs within = c.in_ok-desk.ensures.sits
 
 pub run_desk-ran-requires-clause-parts : goal.run_desk-ran-requires-clause-parts
-run_desk-ran-requires-clause-parts g c κs within =
-    let parts = c.in_ok-desk.ensures.parts in
-    subst (λ (n : ℕ). HaveParts n c.in_ok-desk.seats) (sym parts.pool) parts
-
-pub run_desk-ran-requires-clause-enough : goal.run_desk-ran-requires-clause-enough
-run_desk-ran-requires-clause-enough g c κs within =
-    let all = c.in_ok-desk.ensures.parts.pool in
-    let few = c.requires.few in
-    let limit : 2 ^ 32 ≡ 4294967296 = refl in
-    omega (arith, all, few, limit)
+run_desk-ran-requires-clause-parts g c κs within = c.in_ok-desk.ensures.parts
 
 pub finish_desk-left-requires-clause-sits : goal.finish_desk-left-requires-clause-sits
 finish_desk-left-requires-clause-sits g c κs within = c.run_desk-ran.ensures.sits
 
 pub finish_desk-left-requires-clause-parts : goal.finish_desk-left-requires-clause-parts
-finish_desk-left-requires-clause-parts g c κs within = subst (λ (n : ℕ). HaveParts n c.run_desk-ran.new.seats) c.in_ok-desk.ensures.parts.pool c.run_desk-ran.ensures.parts
+finish_desk-left-requires-clause-parts g c κs within = c.run_desk-ran.ensures.parts
 
 pub finish_desk-left-requires-clause-room : goal.finish_desk-left-requires-clause-room
 finish_desk-left-requires-clause-room g c κs within =
@@ -96,5 +86,5 @@ returns-in-Ok-clause-fits g c clocks fit each =
     let quiet = c.rest_is_quiet.ensures desk e.rested.0 b all (e.runs (c.runs_begin.ensures desk a opened.sits opened.none)) e.rested.1 in
     let time = c.time_stands.ensures.all (some_may_give clocks) desk b all (e.timed (some_may_give clocks) fit each (c.time_stands.ensures.first (some_may_give clocks) desk a opened.none)) in
     IfOk-weaker c.run_of.result (IsLeftBy ts left) (FitsByThreads s media made clocks)
-    (λ run y. c.made_fits.ensures s media made clocks run (is_made c.codecs_rest.ensures c.ends_are_told.ensures s media made desk b left ts run opens e.sits opened.made_is c.finish_desk-left.ensures.finished balanced whole quiet x calls time.few all.pool y)
-    (is_timely c.moments_fit.ensures (some_may_give clocks) desk b left ts run e.sits c.finish_desk-left.ensures.finished y time)) c.run_of.ensures
+    (λ run y. c.made_fits.ensures s media made clocks run (is_made c.codecs_rest.ensures c.ends_are_told.ensures s media made desk b left ts run (runnable_of s c.requires.sound).sound opens e.sits opened.made_is c.finish_desk-left.ensures.finished balanced whole quiet x calls time.few all.pool y)
+    (is_timely c.moments_fit.ensures (some_may_give clocks) x.deeds desk b left ts run e.sits c.finish_desk-left.ensures.finished y time)) c.run_of.ensures
