@@ -34,6 +34,7 @@ limit_text counted.Order = codes "order 1000001"
 limit_text counted.Chunk = codes "chunk 16777217"
 limit_text counted.File = codes "file 268435457"
 limit_text counted.Media = codes "media 268435457"
+limit_text counted.Report = codes "report 268435457"
 
 -- what is wrong at a place
 abbrev pub wrong_text : Wrong → List ℕ

@@ -38,14 +38,14 @@ const ONE_BOX: &str =
 
 // Holds each that comes until so many have come, but no longer than 10,000,000 turns.
 #[derive(Clone, Drop)]
-struct Meeting {
+pub(crate) struct Meeting {
     come: Arc<AtomicU64, Global>,
     late: Arc<AtomicU64, Global>,
     wanted: u64,
 }
 
 impl Meeting {
-    fn of(alloc: Global, wanted: u64) -> Result<Meeting, AllocError> {
+    pub(crate) fn of(alloc: Global, wanted: u64) -> Result<Meeting, AllocError> {
         Ok(Meeting {
             come: Arc::new(alloc, AtomicU64::new(0))?,
             late: Arc::new(alloc, AtomicU64::new(0))?,
@@ -98,7 +98,7 @@ impl Clock for LeapingClock {
 }
 
 // A run of a script with so many workers, with a box of the coder of each of these codecs, and with gates at this meeting.
-fn run_on(
+pub(crate) fn run_on(
     rt: &(impl Threads + Wait + Sync + Alloc<A = Global>),
     script: &str,
     workers: &str,
@@ -130,7 +130,7 @@ fn run_on(
 }
 
 // How often this text stands in another.
-fn count_of(text: &[u8], word: &[u8]) -> u64 {
+pub(crate) fn count_of(text: &[u8], word: &[u8]) -> u64 {
     let mut all: u64 = 0;
     for place in 0..text.len() {
         if text[place..].starts_with(word) {

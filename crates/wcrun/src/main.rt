@@ -28,6 +28,8 @@ mod load;
 mod load_rows;
 #[cfg(test)]
 mod media_rows;
+#[cfg(test)]
+mod port_rows;
 mod prepare;
 mod prepared;
 mod probe;

@@ -46,6 +46,7 @@ impl fmt::Display for LimitText {
             Counted::Chunk => "chunk 16777217",
             Counted::File => "file 268435457",
             Counted::Media => "media 268435457",
+            Counted::Report => "report 268435457",
         })
     }
 }
