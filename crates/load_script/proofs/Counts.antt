@@ -1,11 +1,11 @@
 -- How many steps a caller of a load has, and how many bytes these hold.
-use Rattle.std.proofs.Common.{ℕ, zero, suc, ◌≡◌, ◌+◌, ◌*◌, Bool, true, List, ◌∷◌, ◌++◌, length, Some, refl, ap, ◌∙◌, arith, nat_le, length-append}
+use Rattle.std.proofs.Common.{ℕ, zero, suc, ◌≡◌, ◌+◌, ◌*◌, Bool, true, List, [], ◌∷◌, ◌++◌, length, Some, refl, ap, ◌∙◌, arith, nat_le, length-append}
 use Rattle.std.specs.List.{list_all, sum_by}
 use Rattle.std.proofs.lemmas.Bool.{and_from, le-leb}
 use Rattle.std.proofs.lemmas.List.Sums.{sum_by-cons, sum_by-append}
 use Rattle.std.proofs.lemmas.List.Folds.{list_all-append}
 use Rattle.script_types.specs.declared.steps.Step.{Step}
-use Rattle.script_types.specs.Sound.{bytes_of_step, most_chunk, files_after}
+use Rattle.script_types.specs.Sound.{bytes_of_step, most_chunk, files_after, is_sound_use}
 use Rattle.load_script.specs.Draws.{drawn, state_after, bytes_drawn}
 use Rattle.load_script.specs.Script.{makes, decodes, configures, chunk_steps, takes, take_steps, flush_steps, maker, steps_with}
 
@@ -75,6 +75,22 @@ pub small_steps : (on : ℕ) (codec : List ℕ) (n x : ℕ) → list_all is_smal
 small_steps on codec n x =
     list_all-append is_small (chunk_steps on n 0 x) (flush_steps on (maker n) ++ take_steps on n (maker n + 2))
     ∙ and_from _ _ (small_chunks on n 0 x) (small_takes on n (maker n + 2))
+
+uses_none : (on n chunk x : ℕ) → list_all (is_sound_use []) (chunk_steps on n chunk x) ≡ true
+unfolding chunk_steps
+uses_none on zero chunk x = refl
+uses_none on (suc n) chunk x = uses_none on n (suc chunk) (state_after 160 x)
+
+takes_use_none : (on n number : ℕ) → list_all (is_sound_use []) (take_steps on n number) ≡ true
+unfolding take_steps
+takes_use_none on zero number = refl
+takes_use_none on (suc n) number = takes_use_none on n (suc number)
+
+-- no step uses a port
+pub no_uses : (on : ℕ) (codec : List ℕ) (n x : ℕ) → list_all (is_sound_use []) (steps_with on codec n x) ≡ true
+no_uses on codec n x =
+    list_all-append (is_sound_use []) (chunk_steps on n 0 x) (flush_steps on (maker n) ++ take_steps on n (maker n + 2))
+    ∙ and_from _ _ (uses_none on n 0 x) (takes_use_none on n (maker n + 2))
 
 no_files_in_chunks : (on n chunk x : ℕ) (rest : List Step) → files_after 0 (chunk_steps on n chunk x ++ rest) ≡ files_after 0 rest
 unfolding chunk_steps

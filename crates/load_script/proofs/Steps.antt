@@ -29,6 +29,7 @@ kind_same holds.Chunk = refl
 kind_same holds.Audio = refl
 kind_same holds.Frame = refl
 kind_same holds.Promise = refl
+kind_same holds.Buffer = refl
 
 found_last : (before : List Step) (x : Step) (kind : VariableKind) → AreFresh before → length before < 100000 → binds x ≡ Some (name_of (length before), kind)
     → variable_named (before ++ x ∷ []) (name_of (length before)) ≡ Some (record { step = length before; kind = kind })

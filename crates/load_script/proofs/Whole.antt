@@ -7,12 +7,12 @@ use Rattle.std.proofs.lemmas.List.Sums.{sum_by-cons}
 use Rattle.script_types.specs.declared.script.CallerItem.{CallerItem}
 use Rattle.script_types.specs.declared.steps.VariableKind.TheVariants as holds
 use Rattle.script_types.specs.Names.{decodes as decodes_kind}
-use Rattle.script_types.specs.Sound.{is_sound, is_codec, any_kind, gives, is_sound_step, are_sound_steps, are_sound_callers, are_few, is_small_media, files_in, is_count, bytes_of_caller}
+use Rattle.script_types.specs.Sound.{is_sound, is_codec, any_kind, gives, is_sound_step, are_sound_steps, are_sound_callers, are_few, is_small_media, files_in, is_count, bytes_of_caller, are_sound_uses}
 use Rattle.load_script.specs.Draws.{state_after}
 use Rattle.load_script.specs.Script.{decoders, callers, caller, load_script, steps_with, configures, take_steps, flush_steps, maker}
 use Rattle.load_script.proofs.Names.{fresh_next, nothing_before, AreFresh, nothing}
 use Rattle.load_script.proofs.Steps.{sound_chunks, sound_flush, sound_takes}
-use Rattle.load_script.proofs.Counts.{length-steps_with, bytes_of_steps, small_steps, no_files}
+use Rattle.load_script.proofs.Counts.{length-steps_with, bytes_of_steps, small_steps, no_uses, no_files}
 
 -- the steps of the caller of a decoder that is there
 sound_steps : (on : ℕ) (codec : List ℕ) (n x : ℕ) → is_sound_step decoders [] (configures on codec) ≡ true → is_codec decoders decodes_kind on ≡ true → is_codec decoders any_kind on ≡ true → is_codec decoders (gives holds.Audio) on ≡ true → n ≤ 5000
@@ -80,7 +80,13 @@ no_files_at_all start n =
     mentions_none start n 0 (codes "c0") (codes "ulaw") b (mentions_none start n 1 (codes "c1") (codes "alaw") c
     (mentions_none start n 2 (codes "c2") (codes "pcm-s16") d (mentions_none start n 3 (codes "c3") (codes "pcm-u8") [] refl)))
 
+-- no step uses a port
+sound_uses : (start n : ℕ) → are_sound_uses [] (callers start n) ≡ true
+sound_uses start n =
+    and_from _ _ (no_uses 0 (codes "ulaw") n (from 0 start n)) (and_from _ _ (no_uses 1 (codes "alaw") n (from 1 start n))
+    (and_from _ _ (no_uses 2 (codes "pcm-s16") n (from 2 start n)) (and_from _ _ (no_uses 3 (codes "pcm-u8") n (from 3 start n)) refl)))
+
 pub load_is_sound : (start n : ℕ) → n ≤ 5000 → is_sound (load_script start n) ≡ true
 load_is_sound start n few =
     and_from _ _ refl (and_from _ _ (sound_callers start n few) (and_from _ _ (few_steps start n few) (and_from _ _ (small_media start n few)
-    (and_from _ _ (ap (is_count 0) (no_files_at_all start n)) refl))))
+    (and_from _ _ (ap (is_count 0) (no_files_at_all start n)) (sound_uses start n)))))

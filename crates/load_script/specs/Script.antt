@@ -86,4 +86,4 @@ callers start n =
 
 -- the script of a load that begins with this state, with so many chunks for each caller; it has no order
 abbrev pub load_script : ℕ → ℕ → ScriptData
-load_script start n = record { codecs = decoders; callers = callers start n; order = None; chunk_files = []; inline = 640 * n }
+load_script start n = record { codecs = decoders; callers = callers start n; order = None; chunk_files = []; ports = []; inline = 640 * n }

@@ -4,7 +4,7 @@ ghost use Rattle.load_script.specs.Script.{decoders, callers, load_script};
 
 use crate::Draws;
 use crate::callers::{caller, decoder};
-use script_types::{CallerItem, CodecItem, Script, ScriptData};
+use script_types::{CallerItem, CodecItem, PortItem, Script, ScriptData};
 use std::alloc::Global;
 use wc_base::{List, NoMemory, Text, try_push};
 
@@ -41,7 +41,7 @@ fn callers(alloc: Global, start: u64, count: u32) -> Result<Vec<CallerItem>, NoM
 ///
 /// Each caller has a decoder of its own: of mu-law, A-law, PCM of 16 bits and of 8 bits, at 8,000 frames a second. It configures
 /// it, makes and decodes chunks of 160 drawn bytes, flushes, awaits the flush, and takes the outputs. The script takes nothing from
-/// chunk files, and has no order.
+/// chunk files, has no ports, and has no order.
 #[tactic(auto, using(crate::proofs::Whole::load_is_sound))]
 pub fn load_script(alloc: Global, start: u64, count: u32) -> Result<Script, NoMemory>
     requires { count ≤ 5000 }
@@ -55,6 +55,7 @@ pub fn load_script(alloc: Global, start: u64, count: u32) -> Result<Script, NoMe
         callers: List::of(callers),
         order: None,
         chunk_files: List::<Text>::empty(alloc),
+        ports: List::<PortItem>::empty(alloc),
         inline: 640 * u64::from(count),
     }))
 }

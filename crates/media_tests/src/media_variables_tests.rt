@@ -1,6 +1,6 @@
 // Steps on the media of two callers, with ample memory, each with its answer, and the history of the pool after all.
-ghost use Rattle.std.specs.Prelude.{◌≡◌, length, IfOk};
-ghost use Rattle.media_variables.specs.Variables.{Media};
+ghost use Rattle.std.specs.Prelude.{◌≡◌, false, length, IfOk};
+ghost use Rattle.media_variables.specs.Variables.{Media, uses_port};
 
 use bytes::Bytes;
 use media_variables::CallerMedia;
@@ -82,7 +82,9 @@ fn sound(alloc: Global, content: &[u8]) -> Result<SoundInit, Fail> {
     })
 }
 
-fn audio(alloc: Global, content: Option<&[u8]>) -> Result<MediaStep, Fail> {
+fn audio(alloc: Global, content: Option<&[u8]>) -> Result<MediaStep, Fail>
+    ensures { IfOk result (λ x. uses_port x ≡ false) }
+{
     let init = match content {
         Some(content) => Some(sound(alloc, content)?),
         None => None,
@@ -106,7 +108,9 @@ fn picture(alloc: Global, content: &[u8]) -> Result<PictureInit, Fail> {
     })
 }
 
-fn frame(alloc: Global, content: Option<&[u8]>) -> Result<MediaStep, Fail> {
+fn frame(alloc: Global, content: Option<&[u8]>) -> Result<MediaStep, Fail>
+    ensures { IfOk result (λ x. uses_port x ≡ false) }
+{
     let init = match content {
         Some(content) => Some(picture(alloc, content)?),
         None => None,
@@ -117,27 +121,35 @@ fn frame(alloc: Global, content: Option<&[u8]>) -> Result<MediaStep, Fail> {
     })
 }
 
-fn clone(alloc: Global, of: u32) -> Result<MediaStep, Fail> {
+fn clone(alloc: Global, of: u32) -> Result<MediaStep, Fail>
+    ensures { IfOk result (λ x. uses_port x ≡ false) }
+{
     Ok(MediaStep::Clone {
         of: variable(alloc, of)?,
         bind: copied(alloc, "v")?,
     })
 }
 
-fn transfer(alloc: Global, of: u32) -> Result<MediaStep, Fail> {
+fn transfer(alloc: Global, of: u32) -> Result<MediaStep, Fail>
+    ensures { IfOk result (λ x. uses_port x ≡ false) }
+{
     Ok(MediaStep::Transfer {
         of: variable(alloc, of)?,
         bind: copied(alloc, "v")?,
     })
 }
 
-fn close_data(alloc: Global, of: u32) -> Result<MediaStep, Fail> {
+fn close_data(alloc: Global, of: u32) -> Result<MediaStep, Fail>
+    ensures { IfOk result (λ x. uses_port x ≡ false) }
+{
     Ok(MediaStep::CloseData {
         of: variable(alloc, of)?,
     })
 }
 
-fn copy(alloc: Global, of: u32, options: Options, size: u64) -> Result<MediaStep, Fail> {
+fn copy(alloc: Global, of: u32, options: Options, size: u64) -> Result<MediaStep, Fail>
+    ensures { IfOk result (λ x. uses_port x ≡ false) }
+{
     Ok(MediaStep::Copy {
         of: variable(alloc, of)?,
         options,
@@ -145,7 +157,9 @@ fn copy(alloc: Global, of: u32, options: Options, size: u64) -> Result<MediaStep
     })
 }
 
-fn size(alloc: Global, of: u32, options: Options) -> Result<MediaStep, Fail> {
+fn size(alloc: Global, of: u32, options: Options) -> Result<MediaStep, Fail>
+    ensures { IfOk result (λ x. uses_port x ≡ false) }
+{
     Ok(MediaStep::Size {
         of: variable(alloc, of)?,
         options,
@@ -165,7 +179,9 @@ fn copy_frame(
     rect: Option<RectWords>,
     planes: &[LayoutWords],
     size: u64,
-) -> Result<MediaStep, Fail> {
+) -> Result<MediaStep, Fail>
+    ensures { IfOk result (λ x. uses_port x ≡ false) }
+{
     let layout = layouts_of(alloc, planes)?;
     copy(
         alloc,
@@ -175,7 +191,9 @@ fn copy_frame(
     )
 }
 
-fn take(alloc: Global) -> Result<MediaStep, Fail> {
+fn take(alloc: Global) -> Result<MediaStep, Fail>
+    ensures { IfOk result (λ x. uses_port x ≡ false) }
+{
     Ok(MediaStep::Take {
         on: 0,
         bind: copied(alloc, "v")?,
@@ -183,7 +201,9 @@ fn take(alloc: Global) -> Result<MediaStep, Fail> {
     })
 }
 
-fn step_of(alloc: Global, act: Act) -> Result<MediaStep, Fail> {
+fn step_of(alloc: Global, act: Act) -> Result<MediaStep, Fail>
+    ensures { IfOk result (λ x. uses_port x ≡ false) }
+{
     match act {
         Act::Audio(content) => audio(alloc, content),
         Act::Frame(content) => frame(alloc, content),

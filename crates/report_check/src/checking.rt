@@ -9,12 +9,11 @@ ghost use Rattle.run_ranges.specs.Ranges.{AreWithin};
 ghost use Rattle.trace_text.specs.Report.{report_of};
 
 use crate::ends::ends_of;
-use crate::page::report_text;
 use crate::part::first_line;
 use crate::verdict::Verdict;
 use coder_api::Coder;
 use lawful_part::{Lender, lawful};
-use report_reader::{ReportFault, legal_runs_are_told, read_report};
+use report_reader::{ReportFault, legal_runs_are_told, read_report, report_text};
 use run_model::Run;
 use script_types::Script;
 use std::alloc::Global;

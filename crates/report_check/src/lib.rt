@@ -4,7 +4,6 @@
 
 mod checking;
 mod ends;
-mod page;
 mod part;
 mod verdict;
 

@@ -1,20 +1,18 @@
 // The line in which bytes part from a text.
-ghost use Rattle.std.specs.Prelude.{◌≡◌, ◌≤◌, length};
-ghost use Rattle.report_reader.specs.Fault.{common, feeds as line_feeds};
+ghost use Rattle.std.specs.Prelude.{◌≡◌};
+ghost use Rattle.report_reader.specs.Fault.{feeds};
 ghost use Rattle.report_check.specs.Verdict.{IsFirstLine};
 
-// How many lines end in what two texts begin with alike.
-fn common_lines(a: &[u8], b: &[u8]) -> u64
-    ensures feeds { result ≡ line_feeds (common a.now b.now) }
-    ensures few { result ≤ length a.now }
+use report_reader::first_difference;
+
+// How many lines end in a text.
+fn ended_lines(text: &[u8]) -> u64
+    ensures { result ≡ feeds text.now }
 {
     let mut lines = 0;
     let mut i = 0;
-    while i < a.len() && i < b.len() {
-        if a[i] != b[i] {
-            return lines;
-        }
-        if a[i] == b'\n' {
+    while i < text.len() {
+        if text[i] == b'\n' {
             lines += 1;
         }
         i += 1;
@@ -27,6 +25,8 @@ fn common_lines(a: &[u8], b: &[u8]) -> u64
 pub(crate) fn first_line(text: &[u8], bytes: &[u8]) -> u64
     ensures { IsFirstLine text.now bytes.now result }
 {
-    let lines = common_lines(text, bytes);
-    if text == bytes { lines } else { lines + 1 }
+    match first_difference(text, bytes) {
+        Some(line) => line,
+        None => ended_lines(bytes),
+    }
 }

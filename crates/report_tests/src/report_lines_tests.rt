@@ -27,6 +27,7 @@ fn script(alloc: Global) -> Result<ScriptData, Fail> {
         callers: List::of(vec![in alloc; caller]?),
         order: None,
         chunk_files: List::empty(alloc),
+        ports: List::empty(alloc),
         inline: 0,
     })
 }

@@ -122,6 +122,7 @@ fn data(alloc: Global) -> Result<ScriptData, Fail>
         callers: List::of(vec![in alloc; caller]?),
         order: None,
         chunk_files: List::empty(alloc),
+        ports: List::empty(alloc),
         inline: 4,
     })
 }

@@ -41,6 +41,7 @@ fn script(alloc: Global) -> Result<ScriptData, Fail> {
         callers,
         order: None,
         chunk_files: List::empty(alloc),
+        ports: List::empty(alloc),
         inline: 0,
     })
 }

@@ -75,6 +75,7 @@ fn script(alloc: Global) -> Result<Script, Fail> {
         callers,
         order: None,
         chunk_files: List::empty(alloc),
+        ports: List::empty(alloc),
         inline: 0,
     }))
 }

@@ -122,6 +122,7 @@ fn script(alloc: Global) -> Result<Script, Fail>
         callers: List::of(vec![in alloc; caller]?),
         order: Some(List::of(order(alloc)?)),
         chunk_files: List::of(vec![in alloc; file]?),
+        ports: List::empty(alloc),
         inline: 0,
     }))
 }

@@ -70,7 +70,7 @@ order =
     ∷ item.Start 0 ∷ item.Done 0 2 ∷ item.Turn 0 ∷ item.Turn 0 ∷ item.Caller 0 ∷ item.Caller 0 ∷ []
 
 abbrev pub encoding_script : ScriptData
-encoding_script = record { codecs = encoder ∷ []; callers = record { name = codes "a"; steps = steps } ∷ []; order = Some order; chunk_files = []; inline = 4 }
+encoding_script = record { codecs = encoder ∷ []; callers = record { name = codes "a"; steps = steps } ∷ []; order = Some order; chunk_files = []; ports = []; inline = 4 }
 
 -- ---- the run
 

@@ -65,7 +65,7 @@ order =
     ∷ item.Start 0 ∷ item.Done 0 3 ∷ item.Turn 0 ∷ item.Caller 0 ∷ []
 
 abbrev pub ordinary_script : ScriptData
-ordinary_script = record { codecs = decoder ∷ []; callers = record { name = codes "a"; steps = steps_with (source.Init (Some init)) } ∷ []; order = Some order; chunk_files = []; inline = 4 }
+ordinary_script = record { codecs = decoder ∷ []; callers = record { name = codes "a"; steps = steps_with (source.Init (Some init)) } ∷ []; order = Some order; chunk_files = []; ports = []; inline = 4 }
 
 -- ---- the run
 
@@ -140,6 +140,7 @@ file_script = record {
   callers = record { name = codes "a"; steps = steps_with (source.File 0 1) } ∷ [];
   order = Some order;
   chunk_files = codes "a.chunks" ∷ [];
+  ports = [];
   inline = 0;
 }
 
@@ -175,6 +176,7 @@ taking_script = record {
   callers = record { name = codes "a"; steps = steps_with (source.Init (Some init)) ++ takes } ∷ [];
   order = Some (order ++ item.Caller 0 ∷ item.Caller 0 ∷ []);
   chunk_files = [];
+  ports = [];
   inline = 4;
 }
 

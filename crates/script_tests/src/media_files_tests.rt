@@ -58,6 +58,7 @@ fn script(alloc: Global, inline: u64) -> Result<Script, Fail>
         callers: List::of(vec![in alloc; caller]?),
         order: None,
         chunk_files,
+        ports: List::empty(alloc),
         inline,
     }))
 }

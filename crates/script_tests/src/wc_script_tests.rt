@@ -208,6 +208,135 @@ fn names_are_told_with_their_place(rt: HostRuntime) -> Result<(), Fail> {
     Ok(())
 }
 
+// A codec, a caller, and ports.
+const PORTED: &str = r#"{"codecs":[{"name":"d","kind":"audio-decoder"}],
+ "callers":[{"name":"a","steps":[]}],"ports":PORTS}"#;
+
+#[test]
+fn ports_are_told_at_the_top(rt: HostRuntime) -> Result<(), Fail> {
+    let rows = [
+        ("[]", None),
+        (
+            r#"[{"name":"p","of":"audio"},{"name":"q","of":"frame"}]"#,
+            None,
+        ),
+        ("null", Some(Wrong::Shape)),
+        ("{}", Some(Wrong::Shape)),
+        ("[7]", Some(Wrong::Shape)),
+        (r#"[{"name":"P","of":"audio"}]"#, Some(Wrong::Shape)),
+        (r#"[{"name":"p"}]"#, Some(Wrong::Shape)),
+        (r#"[{"name":"p","of":"chunk"}]"#, Some(Wrong::Shape)),
+        (
+            r#"[{"name":"p","of":"audio"},{"name":"p","of":"frame"}]"#,
+            Some(Wrong::Twice),
+        ),
+        (r#"[{"name":"a","of":"audio"}]"#, Some(Wrong::Twice)),
+        (r#"[{"name":"d","of":"audio"}]"#, Some(Wrong::Twice)),
+        (r#"[{"name":"d","of":"audio"},{}]"#, Some(Wrong::Shape)),
+    ];
+    for (ports, wrong) in rows {
+        let text = PORTED.replace(rt.alloc(), "PORTS", ports)?;
+        let fault = match wrong {
+            Some(wrong) => told_at(Place::Top, wrong),
+            None => None,
+        };
+        assert_eq!(rt; told(&rt, text.as_bytes()), fault, "{ports}");
+    }
+    Ok(())
+}
+
+// A caller that receives and posts, with an order and ports.
+const POSTED: &str = r#"{"codecs":[],"callers":[{"name":"a","steps":[
+  {"do":"receive","from":"p","as":"x"},
+  {"do":"post","to":"q","data":"x"}]}],"order":ORDER,"ports":PORTS}"#;
+
+#[test]
+fn ports_are_told_between_the_items_and_the_turns(rt: HostRuntime) -> Result<(), Fail> {
+    let right = r#"[{"name":"p","of":"audio"},{"name":"q","of":"audio"}]"#;
+    let shape = r#"[{"name":"p","of":"audio"},{"name":"q","of":"audio"},7]"#;
+    let twice =
+        r#"[{"name":"p","of":"audio"},{"name":"q","of":"audio"},{"name":"a","of":"audio"}]"#;
+    let both =
+        r#"[{"name":"p","of":"audio"},{"name":"q","of":"audio"},{"name":"a","of":"audio"},7]"#;
+    let rows = [
+        (r#"["a","a"]"#, right, None),
+        (r#"["a"]"#, right, told_at(Place::Top, Wrong::Shape)),
+        (r#"["a"]"#, twice, told_at(Place::Top, Wrong::Twice)),
+        (r#"["a","a"]"#, twice, told_at(Place::Top, Wrong::Twice)),
+        (r#"["a","a"]"#, both, told_at(Place::Top, Wrong::Shape)),
+        (
+            r#"["b"]"#,
+            shape,
+            told_at(Place::Order(0), Wrong::UnknownName),
+        ),
+        (r#"["a",7]"#, twice, told_at(Place::Order(1), Wrong::Shape)),
+    ];
+    for (order, ports, fault) in rows {
+        let text = POSTED.replace(rt.alloc(), "ORDER", order)?;
+        let text = text.replace(rt.alloc(), "PORTS", ports)?;
+        assert_eq!(rt; told(&rt, text.as_bytes()), fault, "{order} {ports}");
+    }
+    Ok(())
+}
+
+#[test]
+fn steps_name_the_first_port_that_is_one(rt: HostRuntime) -> Result<(), Fail> {
+    let rows = [
+        ("[]", Place::Step(0, 0), Wrong::UnknownName),
+        (
+            r#"[7,{"name":"q","of":"audio"}]"#,
+            Place::Step(0, 0),
+            Wrong::UnknownName,
+        ),
+        (
+            r#"[{"name":"p","of":"audio"},{"name":"q","of":"chunk"}]"#,
+            Place::Step(0, 1),
+            Wrong::UnknownName,
+        ),
+        (
+            r#"[{"name":"p","of":"audio"},{"name":"q","of":"frame"},{"name":"q","of":"audio"}]"#,
+            Place::Step(0, 1),
+            Wrong::Shape,
+        ),
+        (
+            r#"[{"name":"p","of":"audio"},{"name":"q","of":"chunk"},{"name":"q","of":"audio"}]"#,
+            Place::Top,
+            Wrong::Shape,
+        ),
+    ];
+    for (ports, place, wrong) in rows {
+        let text = POSTED.replace(rt.alloc(), "ORDER", r#"["a","a"]"#)?;
+        let text = text.replace(rt.alloc(), "PORTS", ports)?;
+        assert_eq!(rt;
+            told(&rt, text.as_bytes()),
+            told_at(place, wrong),
+            "{ports}"
+        );
+    }
+    Ok(())
+}
+
+#[test]
+fn there_are_at_most_64_ports(rt: HostRuntime) -> Result<(), Fail> {
+    for (many, is_faulty) in [(64, false), (65, true)] {
+        let mut ports = String::from_str(rt.alloc(), "[")?;
+        for i in 0..many {
+            let comma = if i == 0 { "" } else { "," };
+            let port = format!(in rt.alloc(); "{comma}{{\"name\":\"p{i}\",\"of\":\"frame\"}}")?;
+            ports.push_str(&port)?;
+        }
+        ports.push_str("]")?;
+        let text = PORTED.replace(rt.alloc(), "PORTS", &ports)?;
+        let fault = if is_faulty {
+            told_at(Place::Top, Wrong::Shape)
+        } else {
+            None
+        };
+        assert_eq!(rt; told(&rt, text.as_bytes()), fault, "{many}");
+    }
+    Ok(())
+}
+
 // So many pieces of text, each with a comma before it but the first.
 fn push_many(text: &mut String, many: usize, piece: &str) -> Result<(), Fail> {
     for i in 0..many {

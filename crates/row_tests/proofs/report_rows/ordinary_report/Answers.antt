@@ -19,6 +19,7 @@ returns-clause-follows c = record {
     codecs = record { opening = four; history = ordinary; holding = record { box = Some (record { id = coder; number = 0; by = By.Codec 0 3 }); refusal = None } } ∷ [];
     media = record { variables = [] ∷ []; pool = [] };
     slots = record { made = coder ∷ []; history = acquire_entry ∷ [] };
+    ports = [];
   };
   follows = (false, (false, (false, (false, (false, (false, (false, (false, (false, (false, (false, (false, (false, (false, (false, (false, refl))))))))))))))));
   is_recorded = refl;

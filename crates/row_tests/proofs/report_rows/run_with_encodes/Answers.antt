@@ -30,6 +30,7 @@ returns-clause-follows c = record {
       pool = references;
     };
     slots = record { made = coder ∷ []; history = acquire_entry ∷ [] };
+    ports = [];
   };
   follows = (false, (false, (false, (false, (false, (false, (false, (false, (false, (false, (false, (false, (false, (false, refl))))))))))))));
   is_recorded = refl;

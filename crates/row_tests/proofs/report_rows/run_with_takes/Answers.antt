@@ -31,6 +31,7 @@ returns-clause-follows c = record {
       pool = make_entry ∷ [];
     };
     slots = record { made = coder ∷ []; history = acquire_entry ∷ [] };
+    ports = [];
   };
   follows = (false, (false, (false, (false, (false, (false, (false, (false, (false, (false, (false, (false, (false, (false, (false, (false, (false, (false, refl))))))))))))))))));
   is_recorded = refl;
