@@ -33,7 +33,7 @@ SCRIPT = """{"codecs":[
 "order":["a","a","a","a",{"start":"d"},{"done":"d","at":1},
   "a"]}
 """
-WORDS = "one of configure, chunk, decode, audio, frame, encode, flush, poll, await, reset, close, take, state, ground, clone, transfer, close-data, copy, size is wanted"
+WORDS = "one of configure, chunk, decode, audio, frame, encode, flush, poll, await, reset, close, take, state, ground, clone, transfer, close-data, copy, size, buffer, post, receive is wanted"
 NAME = "and a name has 1 to 32 of a to z, 0 to 9, _ and -"
 
 # What is changed in the script, from what to what; the line; the hint.
@@ -61,7 +61,7 @@ ROWS = [
     ("a rate with a point", '"sampleRate":8000', '"sampleRate":8000.0', "script: shape at step 0 0",
      's.json:5:71: step 0 of caller a: "sampleRate" is 8000.0; a number with no point or exponent is wanted'),
     ("half a byte of data", '"01000200"', '"0100020"', "script: shape at step 0 1",
-     's.json:6:68: step 1 of caller a: "data" is "0100020"; a text of pairs of hexadecimal digits is wanted'),
+     's.json:6:68: step 1 of caller a: "data" is "0100020"; a text of pairs of hexadecimal digits, or an object that names a buffer by "buffer" is wanted'),
     ("a chunk of a file with no number", '"init":{"type":"key","timestamp":0,"data":"01000200"}', '"file":"speech"', "script: shape at step 0 1",
      's.json:6:3: step 1 of caller a: it has "file"; either "init" or both "file" and "index" is wanted'),
     ("a kind that is none", '"kind":"audio-decoder"', '"kind":"audiodecoder"', "script: shape at codec 0",
@@ -69,9 +69,9 @@ ROWS = [
     ("a saturation of 0", '"kind":"audio-decoder"', '"kind":"audio-decoder","saturation":0', "script: shape at codec 0",
      's.json:2:51: codec 0: "saturation" is 0; a number from 1 to 64 is wanted'),
     ("a codec's name twice", '"name":"e"', '"name":"d"', "script: twice at codec 1",
-     's.json:3:11: codec 1: "name" is "d", as that of codec 0; codecs and callers all have names of their own'),
+     's.json:3:11: codec 1: "name" is "d", as that of codec 0; codecs, callers and ports all have names of their own'),
     ("a caller named like a codec", '"name":"a"', '"name":"d"', "script: twice at caller 0",
-     's.json:4:20: caller 0: "name" is "d", as that of codec 0; codecs and callers all have names of their own'),
+     's.json:4:20: caller 0: "name" is "d", as that of codec 0; codecs, callers and ports all have names of their own'),
     ("a caller once too often", '\n  "a"]', '\n  "a","a"]', "script: shape at top",
      's.json:11:7: caller a stands in "order" 6 times, and has 5 steps; as many of both are wanted'),
     ("a caller too seldom", '\n  "a"]', '\n  {"turn":"d"}]', "script: shape at top",
@@ -84,6 +84,20 @@ ROWS = [
      's.json:10:26: item 4 of the order: it has 2 of "start", "done", "turn" and "reclaim"; just one is wanted'),
     ("an order that is absent", '"order":["a","a","a","a",{"start":"d"},{"done":"d","at":1},\n  "a"]', '"orders":[]', "script: shape at top",
      's.json:1:1: "order" is missing; an array is wanted\ns.json:10:1: warning: "orders" is no member that is looked at here'),
+    ("a port named like a codec", '\n  "a"]', '\n  "a"],"ports":[{"name":"d","of":"audio"}]', "script: twice at top",
+     's.json:11:25: "name" is "d", as that of codec 0; codecs, callers and ports all have names of their own'),
+    ("a port's name twice", '\n  "a"]', '\n  "a"],"ports":[{"name":"q","of":"audio"},{"name":"q","of":"frame"}]', "script: twice at top",
+     's.json:11:51: "name" is "q", as that of port 0; codecs, callers and ports all have names of their own'),
+    ("a port of another kind", '\n  "a"]', '\n  "a"],"ports":[{"name":"q","of":"chunk"}]', "script: shape at top",
+     's.json:11:34: "of" is "chunk"; audio or frame is wanted'),
+    ("65 ports", '\n  "a"]', '\n  "a"],"ports":[' + ",".join(['{"name":"q","of":"audio"}'] * 65) + "]", "script: shape at top",
+     's.json:11:16: "ports" has 65 items; at most 64 are wanted'),
+    ("a port that is not there", '{"do":"decode","on":"d","chunk":"c"}', '{"do":"receive","from":"q","as":"x"}', "script: unknown name at step 0 2",
+     's.json:7:26: step 2 of caller a: "from" is "q", and the script has no "ports"'),
+    ("a buffer that is not there", '"data":"01000200"', '"data":{"buffer":"b"}', "script: unknown name at step 0 1",
+     's.json:6:78: step 1 of caller a: "buffer" is "b", and no earlier step of this caller names it by "as"'),
+    ("a list with the name of a chunk", '{"do":"decode","on":"d","chunk":"c"}', '{"do":"frame","as":"f","init":{"data":"00","transfer":["c"]}}', "script: shape at step 0 2",
+     's.json:7:58: step 2 of caller a: "transfer" is "c", which step 1 names in "chunk"; the name of a buffer is wanted'),
     ("a comma too many", '"chunk":"c"}', '"chunk":"c",}', "script: not json",
      's.json:7:39: no JSON goes on with } here'),
     ("a comma too few", '"on":"d","chunk"', '"on":"d" "chunk"', "script: not json",

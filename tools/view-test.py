@@ -9,8 +9,8 @@ of N lines (100,000 where it is left out), of which the seconds to make it and t
 read off the report here, apart from `tools/view`: each line with something to show has one mark, in its lane, and a hover
 shows the line; entries stand in the order of their places; a flush reaches from its call to its end; waves have the
 outputs' samples, and a picture its bytes; refusals are red; the curve of the queue agrees with each look at a codec's
-state; outputs lead to their calls and promises to their ends; media last from their first reference to their end; filters
-hide lanes; the next refusal and the next error are those of the report. Ends with 1 where one differs.
+state; outputs lead to their calls and promises to their ends; media last from their first reference to their end, and a way
+through a port from its post to its receive; filters hide lanes; a line at fault is marked; the next refusal and the next error are those of the report. Ends with 1 where one differs.
 """
 import argparse
 import glob
@@ -76,9 +76,21 @@ for (const kind of ['caller', 'codec']) {
 select(1, false);
 const answer = JSON.stringify({marks: [...told.values()], lanes: model.lanes, report: document.getElementById('report').textContent, ready, drawing, windows,
   outside: [...document.querySelectorAll('[src],[href]')].filter(it => !(it.getAttribute('href') || '').startsWith('data:image/')).length,
-  refusals, errors, pictures, links: linked, flushes: spansOf('flush').filter(it => it[1] !== it[2]), media: spansOf('medium'), firsts: few ? firsts : [], steps, hidden,
+  refusals, errors, pictures, links: linked, flushes: spansOf('flush').filter(it => it[1] !== it[2]), media: spansOf('medium'), ways: spansOf('way'), firsts: few ? firsts : [], steps, hidden,
   curves: model.curves.map(it => ({...it, points: few ? it.points : it.points.slice(0, 100)})), columns: model.columns,
   text: document.getElementById('text').textContent.slice(0, 200)});
+fetch('told', {method: 'POST', body: answer}).then(() => fetch('next')).then(it => it.text()).then(name => { if (name) location = name; });
+}
+</script>
+"""
+
+
+# Tells what a page shows first, which marks a line at fault.
+FAULT_PROBE = """
+<script>
+{
+const answer = JSON.stringify({begins: state.line, marks: [...document.querySelectorAll('#drawn .fault')].map(it => Number(it.dataset.line)),
+  lines: [...document.querySelectorAll('#text .fault')].map(it => it.textContent), says: document.getElementById('told').textContent});
 fetch('told', {method: 'POST', body: answer}).then(() => fetch('next')).then(it => it.text()).then(name => { if (name) location = name; });
 }
 </script>
@@ -230,11 +242,44 @@ def is_painted(line, picture):
     return True
 
 
-def check_lanes(lines, told, names, bad):
+def ways_of(lines, script):
+    """Each post whose medium a receive got, with that receive; with a script each other post too, with no end."""
+    line_of, caller, posts = {}, None, {}
+    for n, line in enumerate(lines, 1):
+        if line.startswith("caller "):
+            caller = line.split(" ")[1]
+        elif not line[0].isdigit():
+            caller = None
+        elif caller:
+            line_of[caller, line.split(" ")[0]] = n
+    for (caller, _), n in line_of.items():
+        found = re.fullmatch(r"\d+ from (\S+)\.(\d+)", lines[n - 1])
+        if found:
+            posts[line_of[found[1], found[2]]] = n
+    for caller in json.load(open(script, encoding="utf-8"))["callers"] if script else []:
+        for number, step in enumerate(caller["steps"]):
+            n = line_of[caller["name"], str(number)]
+            if step["do"] == "post" and lines[n - 1].endswith(" ok"):
+                posts.setdefault(n, None)
+    return posts
+
+
+def check_ways(lines, told, script, bad):
+    """Ways through ports, from their posts to their receives."""
+    if not told["firsts"]:
+        return
+    columns = {line: a for line, a, _, kind in told["firsts"] if kind == "caller"}
+    wanted = {post: (columns[post], columns[receive] if receive else told["columns"]) for post, receive in ways_of(lines, script).items()}
+    got = {line: (a, b) for line, a, b in told["ways"]}
+    if got != wanted:
+        bad.append("ways through ports are %s, and not %s" % (got, wanted))
+
+
+def check_lanes(lines, told, names, script, bad):
     callers, codecs = names
     kinds = [(it["kind"], it.get("caller", it.get("codec"))) for it in told["lanes"]]
     has_pool = any(re.match(r"\d+ \S+ (make|clone|end) ", line) for line in lines)
-    wanted = [("caller", n) for n in range(len(callers))] + [("pool", None), ("media", None)] * has_pool
+    wanted = [("caller", n) for n in range(len(callers))] + [("ports", None)] * bool(ways_of(lines, script)) + [("pool", None), ("media", None)] * has_pool
     for n in range(len(codecs)):
         wanted += [(it, n) for it in ("head", "messages", "work", "queue", "tasks")]
     if [it for it in kinds if it[0] != "outputs"] != wanted:
@@ -243,7 +288,7 @@ def check_lanes(lines, told, names, bad):
 
 def check_marks(lines, told, marks, names, bad, is_long):
     lane_of = {n: (it["kind"], names[0][it["caller"]] if "caller" in it else names[1][it["codec"]] if "codec" in it else None) for n, it in enumerate(told["lanes"])}
-    plain = [m for m in told["marks"] if not ({"flush", "medium"} & set(m["kinds"]) and "call" not in m["kinds"])]
+    plain = [m for m in told["marks"] if not ({"flush", "medium", "way"} & set(m["kinds"]) and "call" not in m["kinds"])]
     found = sorted(m["line"] for m in plain)
     if (found != sorted(marks)) if not is_long else (len(set(found)) != len(found) or not set(found) <= set(marks)):
         bad.append("lines with marks: %s too many, %s missing" % (sorted(set(found) - set(marks))[:9], sorted(set(marks) - set(found))[:9]))
@@ -366,7 +411,7 @@ def check(name, text, told, script):
         bad.append("the page takes something from elsewhere")
     if not told["text"].startswith("1wcrun report 12caller"):
         bad.append("its lines have no numbers: %r" % told["text"][:40])
-    check_lanes(lines, told, names, bad)
+    check_lanes(lines, told, names, script, bad)
     plain = check_marks(lines, told, marks, names, bad, is_long)
     looks = 0
     if not is_long:
@@ -374,6 +419,7 @@ def check(name, text, told, script):
         looks = check_curves(lines, told, names, bad)
     links = check_links(lines, told, marks, flushes, bad)
     check_media(lines, told, bad)
+    check_ways(lines, told, script, bad)
     for picture in told["pictures"]:
         if not is_painted(lines[picture["line"] - 1], picture):
             bad.append("line %d: its picture is another one" % picture["line"])
@@ -420,13 +466,19 @@ def long_report(count):
     return "\n".join(["wcrun report 1", "caller a", *results, "codec d audio-decoder 4", *entries, "pool", "slots", "0 d.1 acquire decode:pcm-s16 0", "held 0", "end", ""])
 
 
-def refusals(folder, text):
-    """Texts that are no reports, each with the line that is to be named."""
+def refusals(folder, text, ported):
+    """Texts that are no reports, each with the line that is to be named; of the second text each receive is changed."""
     lines = text.split("\n")
     first = next(n for n, line in enumerate(lines) if re.match(r"\d+ start ", line))
     output = next(n for n, line in enumerate(lines) if line.startswith("  output audio"))
     rows = [("", 1), ("{}\n", 1), (text[:-1], len(lines) - 1), (text + "end\n", len(lines)), ("\n".join(lines[:-2]) + "\n", len(lines) - 1)]
     for n, line in ((first, lines[first].replace("start ", "begin ")), (first, lines[first].replace(" start", "  start")), (first, "7" + lines[first]), (output, lines[output] + "00"), (output, lines[output].upper())):
+        rows.append(("\n".join([*lines[:n], line, *lines[n + 1:]]), n + 1))
+    lines = ported.split("\n")
+    first, second = [n for n, line in enumerate(lines) if re.match(r"\d+ from ", line)][:2]
+    again = lines[second].split(" ")[0] + lines[first][lines[first].index(" "):]
+    for n, line in ((first, "0 from nobody.1"), (first, re.sub(r"\d+$", "99", lines[first])), (second, again)):
+        line = lines[n].split(" ")[0] + line[line.index(" "):]
         rows.append(("\n".join([*lines[:n], line, *lines[n + 1:]]), n + 1))
     bad = 0
     for text, line in rows:
@@ -441,18 +493,34 @@ def refusals(folder, text):
     return bad
 
 
-def made_page(folder, name, text, script):
+def faults(folder, browser, text):
+    """Pages that mark a line at fault: of an entry, of an output, and of a text that is no report."""
+    lines = text.split("\n")
+    rows = [(text, next(n for n, line in enumerate(lines, 1) if re.match(r"\d+ start ", line))),
+            (text, next(n for n, line in enumerate(lines, 1) if line.startswith("  output "))), (text.replace(" start ", " begin "), 9)]
+    pages = [("%d.html" % n, made_page(folder, "a line at fault", row, None, line, FAULT_PROBE)[0]) for n, (row, line) in enumerate(rows)]
+    bad = 0
+    for n, ((row, line), told) in enumerate(zip(rows, told_by(browser, pages))):
+        wanted = {"begins": line, "marks": [line] if n < 2 else [], "lines": ["%d%s" % (line, row.split("\n")[line - 1])]}
+        if any(told[key] != value for key, value in wanted.items()) or not told["says"].startswith("the line at fault"):
+            print("  a page with line %d at fault shows %s" % (line, told))
+            bad += 1
+    print("  %d pages with a line at fault: %s" % (len(rows), "each marks it" if not bad else "%d wrong" % bad))
+    return bad
+
+
+def made_page(folder, name, text, script, fault=0, probe=PROBE):
     """The page of a report, with the probe behind it, and the seconds that it took."""
     at = os.path.join(folder, "it.report")
     with open(at, "w", encoding="utf-8") as it:
         it.write(text)
     began = time.time()
-    made = subprocess.run([VIEW, at, *(["--script", script] if script else [])], capture_output=True, text=True)
+    made = subprocess.run([VIEW, at, *(["--script", script] if script else []), *(["--fault", str(fault)] if fault else [])], capture_output=True, text=True)
     if made.returncode:
         raise SystemExit("%s: %s" % (name, made.stderr.strip()))
     spent = time.time() - began
     with open(os.path.join(folder, "it.html"), encoding="utf-8") as it:
-        return (it.read() + PROBE).encode(), spent
+        return (it.read() + probe).encode(), spent
 
 
 def main():
@@ -481,7 +549,9 @@ def main():
             print("%s:" % browser)
             for (name, text, script), told in zip(texts, told_by(browser, pages)):
                 bad += check(name, text, told, script)
-        bad += refusals(folder, next(text for _, text, _ in texts if "  output audio" in text))
+            bad += faults(folder, browser, next(text for _, text, _ in texts if "  output audio" in text))
+        with open(os.path.join(TOP, "demo", "ports.report"), encoding="utf-8") as it:
+            bad += refusals(folder, next(text for _, text, _ in texts if "  output audio" in text), it.read())
     return 1 if bad else 0
 
 

@@ -327,7 +327,7 @@ class Reading:
     def encode(self, k, place, who, i, codec):
         """An encode by its caller's results: those before it say whether its medium is there, and whether it is detached."""
         (c, j), results, steps = who, self.run.results[who[0]], self.script.callers[who[0]][1]
-        if i >= len(results) or not (results[i][0] == "unit" or results[i] == ("local", None)):
+        if i >= len(results) or not (results[i][0] in ("unit", "from") or results[i] == ("local", None)):
             return None
         if any(steps[n]["do"] in ("transfer", "close-data", "post") and self.script.bound[c][n].get("of", self.script.bound[c][n].get("data")) == i
                and results[n] == ("local", None) for n in range(min(j, len(results)))):
