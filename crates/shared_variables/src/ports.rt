@@ -40,6 +40,7 @@ pub fn post_at<R: Wait>(
         IfOk result (HasPosted who variable time variables.old variables.new knew knows) }
     ensures held { AreOf (IsPoolRef port.now.pool) variables.new }
     ensures same { OnErr result (variables.new ≡ variables.old) }
+    ensures kept { OnErr result (seen pass.new ≡ seen pass.old) }
 {
     let given = variables.post(variable);
     let (answer, medium) = given;
@@ -56,8 +57,8 @@ pub fn post_at<R: Wait>(
 }
 
 /// A receive of a caller, and its answer: the first medium of a port goes into the step's variable, if one was left, and the step's time is
-/// behind that of its post. Where memory is
-/// wanted the variables are as they were; room for the variable is made before anything is received.
+/// behind that of its post. Where memory is wanted the variables are as they were. Room for the variable is made before anything is
+/// received.
 pub fn receive_at<R: Wait>(
     rt: &R,
     port: &SharedPort<Parcel>,

@@ -62,3 +62,6 @@ returns-in-Err-clause-same g c =
 
 pub returns-in-Err-clause-held : goal.returns-in-Err-clause-held
 returns-in-Err-clause-held g c = subst (λ (l : List (Option WholeMedium)). AreOf (IsPoolRef c.args.port.now.pool) l) (sym (returns-in-Err-clause-same g c)) c.requires.held
+
+pub returns-in-Err-clause-kept : goal.returns-in-Err-clause-kept
+returns-in-Err-clause-kept g c = c.in-Err.ensures.back.1
