@@ -58,7 +58,7 @@ fn push_ends(
 }
 
 /// The ends that say that memory was wanted, by their codec's number and their place.
-pub(crate) fn ends_of(alloc: Global, codecs: &[CodecTrace]) -> Result<Vec<(u32, u64)>, NoMemory>
+pub fn ends_of(alloc: Global, codecs: &[CodecTrace]) -> Result<Vec<(u32, u64)>, NoMemory>
     ensures { IfOk result (λ ends. ends.items ≡ all_ends 0 (map (λ c. c.entries) codecs.now)) }
 {
     let mut ends = Vec::new(alloc);

@@ -8,4 +8,5 @@ mod part;
 mod verdict;
 
 pub use checking::check;
+pub use ends::ends_of;
 pub use verdict::Verdict;
