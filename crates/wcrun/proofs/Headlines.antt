@@ -6,7 +6,7 @@ use Rattle.script_types.specs.declared.fault.Fault.{Fault}
 use Rattle.chunk_files.specs.declared.fault.Stop.{Stop}
 use Rattle.wcrun.specs.Refusals.{status_of, line_of, usage_line, memory_line}
 use Rattle.wcrun.specs.Load.{Supply}
-use Rattle.wcrun.specs.Headline.{Reading, Writing, IsWhole, IsCut, Comes, IsRefusal, SinkFailed, Headline}
+use Rattle.wcrun.specs.Headline.{Reading, Writing, IsWhole, IsCut, Comes, IsRefusal, IsWrongReport, SinkFailed, Headline}
 use Rattle.wcrun.specs.{Writing.WritesText, Writing.WritesLine, Stops.MayStop}
 
 -- no fault has status 0
@@ -40,30 +40,33 @@ headline_of_whole r supply w text k p = record {
 }
 
 -- a failed write of a line, or of the line for want of memory
-failed_line : (r : Reading) (supply : Supply) (w : Writing) (line : List ℕ) → IsCut r supply line ⊎ ((status : ℕ) × IsRefusal r status line) → Rose w.faults_before w.faults_after
+failed_line : (r : Reading) (supply : Supply) (w : Writing) (line : List ℕ) → IsCut r supply line ⊎ ((status : ℕ) × IsRefusal r supply status line) → Rose w.faults_before w.faults_after
     → AppendsPart w.before line w.after ⊎ AppendsPart w.before memory_line w.after → SinkFailed r supply w
 failed_line r supply w line k rose (inl q) = record { rose = rose; text = line; allowed = inr k; part = q }
 failed_line r supply w line k rose (inr q) = record { rose = rose; text = memory_line; allowed = inr (inl (cut_nothing r supply)); part = q }
 
-headline_of_line : (r : Reading) (supply : Supply) (w : Writing) (status : ℕ) (line : List ℕ) → status ≢ 0 → IsRefusal r status line → WritesLine status line w → Headline r supply w
+headline_of_line : (r : Reading) (supply : Supply) (w : Writing) (status : ℕ) (line : List ℕ) → status ≢ 0 → IsRefusal r supply status line → WritesLine status line w → Headline r supply w
 headline_of_line r supply w status line some k p = record {
   written = λ e. absurd (some (sym (p.done (λ five. omega arith) (λ six. omega arith)) ∙ e));
   out_of_memory = λ e. record { text = memory_line; cut = cut_nothing r supply; told = p.memory e };
   sink_failed = λ e. failed_line r supply w line (inr (status, k)) (p.failed e) (p.part e);
   refused = λ n0 n5 n6. record {
     text = line;
-    line = subst (λ n. IsRefusal r n line) (sym (p.done n5 n6)) k;
+    line = subst (λ n. IsRefusal r supply n line) (sym (p.done n5 n6)) k;
     told = p.whole n5 n6;
   };
 }
 
 pub headline_of_fault : (r : Reading) (supply : Supply) (w : Writing) (x : Fault) → Comes r x → WritesLine (status_of x) (line_of x) w → Headline r supply w
 headline_of_fault r supply w x k p =
-    headline_of_line r supply w (status_of x) (line_of x) (not_zero x) (inr (record { told = x; comes = k; is_status = refl; is_line = refl })) p
+    headline_of_line r supply w (status_of x) (line_of x) (not_zero x) (inr (inl (record { told = x; comes = k; is_status = refl; is_line = refl }))) p
 
 pub headline_of_usage : (r : Reading) (supply : Supply) (w : Writing) → r.command ≡ None → WritesLine 2 usage_line w → Headline r supply w
 headline_of_usage r supply w k p =
     headline_of_line r supply w 2 usage_line (λ e. omega arith) (inl (record { comes = k; is_status = refl; is_line = refl })) p
+
+pub headline_of_wrong : (r : Reading) (supply : Supply) (w : Writing) (text : List ℕ) → IsWrongReport r supply 1 text → WritesLine 1 text w → Headline r supply w
+headline_of_wrong r supply w text k p = headline_of_line r supply w 1 text (λ e. omega arith) (inr (inr k)) p
 
 pub headline_of_memory : (r : Reading) (supply : Supply) (w : Writing) → WritesLine 6 memory_line w → Headline r supply w
 headline_of_memory r supply w p = record {

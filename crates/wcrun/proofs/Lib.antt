@@ -6,4 +6,6 @@ mod Stopping
 mod Probing
 mod Loads
 mod Headlines
+mod Judging
+mod Commands
 mod Texts

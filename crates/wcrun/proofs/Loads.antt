@@ -1,5 +1,5 @@
 -- What a load comes to: its summary, or want of memory.
-use Rattle.std.proofs.Common.{◌≡◌, ◌≢◌, ℕ, zero, suc, List, [], Option, None, Some, Result, Ok, Err, IfOk, refl, sym, ap, ◌∙◌, subst, inr, arith}
+use Rattle.std.proofs.Common.{◌≡◌, ◌≢◌, ℕ, zero, suc, List, [], Option, None, Some, Result, Ok, Err, IfOk, refl, sym, ap, ◌∙◌, subst, inl, inr, arith}
 use Rattle.wc_base.specs.Causes.{Rose}
 use Rattle.wc_chunk.specs.declared.chunk.Chunk.{Chunk}
 use Rattle.script_types.specs.declared.script.ScriptData.{ScriptData}
@@ -9,7 +9,7 @@ use Rattle.wc_run.specs.Fits.{FitsByThreads}
 use Rattle.load_script.specs.Script.{load_script}
 use Rattle.load_script.specs.declared.words.Load.{Load}
 use Rattle.load_summary.specs.{Lacks.LoadsLackNothing, Summary.load_text}
-use Rattle.wcrun.specs.Headline.{Reading, Writing, Holding, Headline, Decides, IsComplete, status_for, verb_in}
+use Rattle.wcrun.specs.Headline.{Reading, Writing, Holding, Headline, Decides, IsComplete, IsStatusFor, verb_in}
 use Rattle.wcrun.specs.Load.{Supply, IsLoaded}
 use Rattle.wcrun.specs.Outcome.{Outcome, Loads, ComesBy, IsOutcome}
 use Rattle.wcrun.specs.Refusals.{memory_line}
@@ -18,6 +18,7 @@ use Rattle.wcrun.specs.Writing.{WritesText, WritesLine}
 use Rattle.wcrun.specs.declared.command.Verb.{Verb}
 use Rattle.wcrun.proofs.Files.{if_file}
 use Rattle.wcrun.proofs.Headlines.{headline_of_whole}
+use Rattle.wcrun.proofs.Outcomes.{end_zero}
 
 -- the script of a load, with no chunk files, lacks nothing
 pub lacks_nothing : (s : ScriptData) (start n : ℕ) (media : List (List Chunk)) → LoadsLackNothing → s ≡ load_script start n → media ≡ [] → missing_in s media ≡ None
@@ -40,7 +41,7 @@ if_summed bytes load supply (Err e) wanted f h = tt
 
 pub headline_of_load : (r : Reading) (supply : Supply) (w : Writing) (load : Load) (text : List ℕ) → verb_in r.command ≡ Some (Verb.Load load) → IsLoaded load supply text → WritesText text w → Headline r supply w
 headline_of_load r supply w load text asked loaded p =
-    headline_of_whole r supply w text (inr (inr (record { load = load; asked = asked; loaded = loaded }))) p
+    headline_of_whole r supply w text (inr (inr (inl (record { load = load; asked = asked; loaded = loaded })))) p
 
 -- so many is none, where only 5 and 6 are others
 only_none : (n : ℕ) → (n ≢ 0 → n ≢ 6 → n ≡ 5) → n ≢ 5 → n ≢ 6 → n ≡ 0
@@ -58,21 +59,21 @@ is_load : (r : Reading) (load : Load) (c : Command) → verb_in r.command ≡ So
 is_load r load c asked is = let both : Some (Verb.Load load) ≡ Some c.verb = sym asked ∙ ap verb_in is in cc
 
 load_outcome : (c : Command) (load : Load) (files : Holding) (bytes : List ℕ) (outcome : Outcome) → Verb.Load load ≡ c.verb → IsOutcome c files bytes outcome → outcome ≡ Ok Loads
-load_outcome c load files bytes outcome same h = subst (λ (v : Verb). ComesBy v c.file files bytes outcome) (sym same) h
+load_outcome c load files bytes outcome same h = subst (λ (v : Verb). ComesBy v c.file c.report files bytes outcome) (sym same) h
 
 some_load : (c : Command) (load : Load) (files : Holding) (bytes : List ℕ) → Verb.Load load ≡ c.verb → (outcome : Outcome) × IsOutcome c files bytes outcome
-some_load c load files bytes same = (Ok Loads, subst (λ (v : Verb). ComesBy v c.file files bytes (Ok Loads)) same refl)
+some_load c load files bytes same = (Ok Loads, subst (λ (v : Verb). ComesBy v c.file c.report files bytes (Ok Loads)) same refl)
 
 no_words : (r : Reading) (load : Load) → verb_in r.command ≡ Some (Verb.Load load) → r.command ≡ None → ⊥
 no_words r load asked none = let both : ◌≡◌ {A = Option Verb} None (Some (Verb.Load load)) = sym (ap verb_in none) ∙ asked in absurd cc
 
-pub decides_load : (r : Reading) (w : Writing) (load : Load) → verb_in r.command ≡ Some (Verb.Load load) → (w.answer ≢ 5 → w.answer ≢ 6 → w.answer ≡ 0) → Decides r w
-decides_load r w load asked ends = record {
+pub decides_load : (r : Reading) (supply : Supply) (w : Writing) (load : Load) → verb_in r.command ≡ Some (Verb.Load load) → (w.answer ≢ 5 → w.answer ≢ 6 → w.answer ≡ 0) → Decides r supply w
+decides_load r supply w load asked ends = record {
   words = λ none n5 n6. absurd (no_words r load asked none);
   file = if_file r _ (λ c files bytes is holds there outcome h n4 n5 n6.
-      ends n5 n6 ∙ sym (ap status_for (load_outcome c load files bytes outcome (is_load r load c asked is) h)));
+      subst (λ (o : Outcome). IsStatusFor supply files o w.answer) (sym (load_outcome c load files bytes outcome (is_load r load c asked is) h)) (ends n5 n6));
   some = if_file r _ (λ c files bytes is holds there. some_load c load files bytes (is_load r load c asked is));
 }
 
 pub complete_load : (r : Reading) (w : Writing) (load : Load) → (w.answer ≢ 5 → w.answer ≢ 6 → w.answer ≡ 0) → (w.answer ≡ 5 → Rose w.faults_before w.faults_after) → IsComplete r w
-complete_load r w load ends failed = if_file r _ (λ c files bytes is holds there ending h reads writes n6. ends (λ five. writes (failed five)) n6)
+complete_load r w load ends failed = if_file r _ (λ c files bytes is holds there ending h reads writes n6. end_zero ending w.answer (ends (λ five. writes (failed five)) n6))

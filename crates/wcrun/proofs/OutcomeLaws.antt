@@ -6,10 +6,11 @@ use Rattle.script_types.specs.{declared.fault.Counted.Counted, declared.fault.Fa
 use Rattle.media_files.specs.Laws.{OneReading, SomeReading}
 use Rattle.wc_demux.specs.Media.{IsMediaFile, IsMediaFault, IsMediaRead}
 use Rattle.wc_demux.specs.declared.media.MediaFile.{MediaFile}
-use Rattle.wcrun.specs.Outcome.{Outcome, Tells, Loads, Playable, playable_of, ready_of, Becomes, ComesBy, IsProbed}
+use Rattle.wcrun.specs.Outcome.{Outcome, Tells, Loads, Playable, playable_of, ready_of, judged_of, Becomes, ComesBy, IsJudged, IsProbed}
 use Rattle.wcrun.specs.Headline.{Holding}
 use Rattle.wcrun.specs.Laws.{OneOutcome, SomeOutcome}
 use Rattle.wcrun.specs.Probe.{media_line, IsMediaLine}
+use Rattle.wcrun.specs.declared.command.Mode.{Mode}
 use Rattle.wcrun.specs.declared.command.Verb.{Verb}
 
 -- ---- scripts
@@ -21,6 +22,17 @@ same_becomes one files (Err e) a b is js = is ∙ sym js
 some_becomes : SomeReading → (files : Holding) (p : Playable) → (outcome : Outcome) × Becomes files p outcome
 some_becomes some files (Ok s) = let media = some files s in (ready_of s media.0, (media.0, media.1, refl))
 some_becomes some files (Err e) = (Err e, refl)
+
+-- ---- a script and a report
+
+same_judged : OneReading → (files : Holding) (bytes name : List ℕ) (a b : Outcome) → IsJudged files bytes name a → IsJudged files bytes name b → a ≡ b
+same_judged one files bytes name a b p q =
+    p.judged ∙ (ap (judged_of name (files name)) (same_becomes one files (playable_of Mode.InOrder bytes) p.script q.script p.becomes q.becomes) ∙ sym q.judged)
+
+some_judged : SomeReading → (files : Holding) (bytes name : List ℕ) → (outcome : Outcome) × IsJudged files bytes name outcome
+some_judged some files bytes name =
+    let o = some_becomes some files (playable_of Mode.InOrder bytes) in
+    (judged_of name (files name) o.0, record { script = o.0; becomes = o.1; judged = refl })
 
 -- ---- media files
 
@@ -68,18 +80,20 @@ by_length name bytes read false h = by_read name bytes (not_more most_file (leng
 
 -- ---- both
 
-by_verb : OneReading → MediaLaws → (v : Verb) (name : List ℕ) (files : Holding) (bytes : List ℕ) (a b : Outcome) → ComesBy v name files bytes a → ComesBy v name files bytes b → a ≡ b
-by_verb one laws (Verb.Run mode) name files bytes a b p q = same_becomes one files (playable_of mode bytes) a b p q
-by_verb one laws Verb.Probe name files bytes a b p q = same_probed laws name bytes a b p q
-by_verb one laws (Verb.Load load) name files bytes a b p q = p ∙ sym q
+by_verb : OneReading → MediaLaws → (v : Verb) (name report : List ℕ) (files : Holding) (bytes : List ℕ) (a b : Outcome) → ComesBy v name report files bytes a → ComesBy v name report files bytes b → a ≡ b
+by_verb one laws (Verb.Run mode) name report files bytes a b p q = same_becomes one files (playable_of mode bytes) a b p q
+by_verb one laws Verb.Probe name report files bytes a b p q = same_probed laws name bytes a b p q
+by_verb one laws (Verb.Load load) name report files bytes a b p q = p ∙ sym q
+by_verb one laws Verb.Check name report files bytes a b p q = same_judged one files bytes report a b p q
 
-some_by : SomeReading → MediaLaws → (v : Verb) (name : List ℕ) (files : Holding) (bytes : List ℕ) → (outcome : Outcome) × ComesBy v name files bytes outcome
-some_by some laws (Verb.Run mode) name files bytes = some_becomes some files (playable_of mode bytes)
-some_by some laws Verb.Probe name files bytes = by_length name bytes (laws.some bytes) (nat_lt most_file (length bytes)) refl
-some_by some laws (Verb.Load load) name files bytes = (Ok Loads, refl)
+some_by : SomeReading → MediaLaws → (v : Verb) (name report : List ℕ) (files : Holding) (bytes : List ℕ) → (outcome : Outcome) × ComesBy v name report files bytes outcome
+some_by some laws (Verb.Run mode) name report files bytes = some_becomes some files (playable_of mode bytes)
+some_by some laws Verb.Probe name report files bytes = by_length name bytes (laws.some bytes) (nat_lt most_file (length bytes)) refl
+some_by some laws (Verb.Load load) name report files bytes = (Ok Loads, refl)
+some_by some laws Verb.Check name report files bytes = some_judged some files bytes report
 
 pub one_outcome : OneReading → MediaLaws → OneOutcome
-one_outcome one laws c files bytes a b p q = by_verb one laws c.verb c.file files bytes a b p q
+one_outcome one laws c files bytes a b p q = by_verb one laws c.verb c.file c.report files bytes a b p q
 
 pub some_outcome : SomeReading → MediaLaws → SomeOutcome
-some_outcome some laws c files bytes = some_by some laws c.verb c.file files bytes
+some_outcome some laws c files bytes = some_by some laws c.verb c.file c.report files bytes

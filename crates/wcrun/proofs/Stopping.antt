@@ -1,5 +1,5 @@
 -- How a script is read, from its file and its chunk files.
-use Rattle.std.proofs.Common.{◌≡◌, ◌≢◌, ◌<◌, ◌≤◌, inr, ℕ, List, [], ◌∷◌, ◌++◌, length, Bool, true, Option, Some, None, IfSome, Ok, Err, refl, sym, ap, subst, ◌∙◌, arith}
+use Rattle.std.proofs.Common.{◌≡◌, ◌≢◌, ◌<◌, ◌≤◌, inl, inr, ℕ, List, [], ◌∷◌, ◌++◌, length, Bool, true, Option, Some, None, IfSome, Ok, Err, refl, sym, ap, subst, ◌∙◌, arith}
 use Rattle.std.specs.Prelude.{IsSomeAnd, MatchOption, nat_lt, if◌then◌else◌}
 use Rattle.wc_base.specs.Causes.{RoseBy}
 use Rattle.script_types.specs.declared.{fault.Counted.Counted, fault.Fault.Fault, script.ScriptData.ScriptData}
@@ -37,9 +37,10 @@ pub stops : (mode : Mode) (content : Option Holding) (name : List ℕ) (s : Scri
     → MayStopFor content s fb fc bb bc e → FailedBy {T = Unit {0}} xb xc (Err e) → MayStop (reading (to_run mode name) content fa fc ba bc xa xc) e
 stops mode content name s fa fb fc ba bb bc xa xb xc Stop.NoMemory le le' same h g f = tt
 stops mode content name s fa fb fc ba bb bc xa xb xc (Stop.Fault (Fault.Unread n)) le le' same h (m, rose) f =
-    (inr (mode, refl, named_in mode content name n s h m), (rose_since 1 fa fb fc le rose, f ∙ ap (λ (l : List (List ℕ)). l ++ n ∷ []) same))
+    (inr (inl (mode, (refl, named_in mode content name n s h m))), (rose_since 1 fa fb fc le rose, f ∙ ap (λ (l : List (List ℕ)). l ++ n ∷ []) same))
 stops mode content name s fa fb fc ba bb bc xa xb xc (Stop.Fault (Fault.TooMany Counted.Script)) le le' same h g f = elim g [ ]
 stops mode content name s fa fb fc ba bb bc xa xb xc (Stop.Fault (Fault.TooMany Counted.File)) le le' same h g f = comes_to mode content name s _ _ _ (rose_since 268435457 ba bb bc le') h g
+stops mode content name s fa fb fc ba bb bc xa xb xc (Stop.Fault (Fault.TooMany Counted.Report)) le le' same h g f = elim g [ ]
 stops mode content name s fa fb fc ba bb bc xa xb xc (Stop.Fault x) le le' same h g f = comes_to mode content name s _ (Unit {0}) (Unit {0}) (λ u. u) h g
 
 -- ---- the chunk files
@@ -74,6 +75,7 @@ by_script : (r : Reading) (x : Fault) → IsOfScript (Stop.Fault x) → ComesTo 
 by_script r (Fault.Unread n) o h = elim o [ ]
 by_script r (Fault.TooMany Counted.Script) o h = elim o [ ]
 by_script r (Fault.TooMany Counted.File) o h = elim o [ ]
+by_script r (Fault.TooMany Counted.Report) o h = elim o [ ]
 by_script r x o h = h
 
 -- a script that was read can not be run so

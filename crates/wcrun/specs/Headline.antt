@@ -1,8 +1,9 @@
--- What `replay FILE`, `run FILE`, `probe FILE` and `load START N` write, and with which status they end.
+-- What `replay FILE`, `run FILE`, `probe FILE`, `load START N` and `check SCRIPT REPORT` write, and with which status they end.
 --
--- Status 0 is a whole report, the line of a media file, or the summary of a load, 6 is want of memory, 5 is a failed sink, and 2, 3, 4 and 7 are refusals. What is said of the
--- bytes of files and of the sink holds where they tell them.
-use Rattle.std.specs.Prelude.{ℕ, ◌≡◌, ◌≢◌, ◌⊎◌, List, [], ◌∷◌, ◌++◌, Option, Some, None, IfSome, IsSomeAnd, MatchOption, Ok, Err}
+-- Status 0 is a whole report, the line of a media file, the summary of a load, or the line that a report is right. Status 1 is the line at
+-- fault in one that is wrong, 6 is want of memory, 5 is a failed sink, and 2, 3, 4 and 7 are refusals. What is said of the bytes of files
+-- and of the sink holds where they tell them.
+use Rattle.std.specs.Prelude.{ℕ, ◌≡◌, ◌≢◌, ◌⊎◌, List, [], ◌∷◌, ◌++◌, Option, Some, None, option_and_then, IfSome, IsSomeAnd, MatchOption, Ok, Err}
 use Rattle.wc_base.specs.Causes.{Rose, RoseBy}
 use Rattle.wc_base.specs.Told.{appended, AppendsPart}
 use Rattle.script_types.specs.declared.fault.Counted.TheVariants as counted
@@ -16,8 +17,10 @@ use Rattle.run_model.specs.Fits.{IsLegalRun, FitsInOrder}
 use Rattle.wc_run.specs.Fits.{FitsByThreads}
 use Rattle.trace_text.specs.Report.{report_of}
 use Rattle.media_files.specs.Media.{IsReached}
-use Rattle.wcrun.specs.Refusals.{status_of, line_of, usage_line, memory_line}
-use Rattle.wcrun.specs.Outcome.{Ready, Ending, Runs, Outcome, playable_of, IsOutcome}
+use Rattle.media_files.specs.Within.{HoldBytes}
+use Rattle.report_check.specs.Verdict.{IsRight, IsLineAtFault}
+use Rattle.wcrun.specs.Refusals.{status_of, line_of, usage_line, memory_line, right_line, wrong_line}
+use Rattle.wcrun.specs.Outcome.{Ready, Ending, Runs, Judges, Outcome, Becomes, playable_of, IsOutcome}
 use Rattle.wcrun.specs.Probe.{IsMediaLine}
 use Rattle.wcrun.specs.Load.{Supply, IsLoaded}
 use Rattle.wcrun.specs.Words.{Command}
@@ -75,9 +78,19 @@ OfFile r P = IsSomeAnd r.command (λ c. IfSome r.content (λ files. IsSomeAnd (f
 abbrev pub IfFile : Reading → (Command → Holding → List ℕ → Type 0) → Type 0
 IfFile r P = IfSome r.command (λ c. IfSome r.content (λ files. IfSome (files c.file) (P c files)))
 
+-- What the files hold is bytes, as far as they tell it.
+abbrev pub HoldBytesIn : Reading → Type 0
+HoldBytesIn r = IsSomeAnd r.content HoldBytes
+
 -- The file's bytes come to this.
 abbrev pub ComesTo : Reading → Outcome → Type 0
 ComesTo r outcome = OfFile r (λ c files bytes. IsOutcome c files bytes outcome)
+
+-- how the script of a command is read: that of `check` as one that is replayed
+abbrev pub mode_of : Verb → Option Mode
+mode_of (verb.Run m) = Some m
+mode_of verb.Check = Some mode.InOrder
+mode_of _ = None
 
 -- what the words ask for, and of which file
 abbrev pub verb_in : Option Command → Option Verb
@@ -122,9 +135,33 @@ pub record IsSummary (r : Reading) (supply : Supply) (text : List ℕ) : Type 0 
   pub asked : verb_in r.command ≡ Some (verb.Load load)
   pub loaded : IsLoaded load supply text
 
--- The text is what the command writes.
+-- The words ask for a check, and these are the script, its chunks and the report that the files hold.
+pub record IsAsked (r : Reading) (ready : Ready) (report : List ℕ) : Type 0 where
+  pub asked : verb_in r.command ≡ Some verb.Check
+  pub held : ComesTo r (Ok (Judges ready report))
+
+-- The text says that the report which is checked is right, and it is: that of a legal run that fits its script and follows its order.
+pub record IsRightReport (r : Reading) (supply : Supply) (text : List ℕ) : Type 0 where
+  pub ready : Ready
+  pub report : List ℕ
+  pub asked : IsAsked r ready report
+  pub right : IsRight ready.script ready.media supply.coders report
+  pub whole : text ≡ right_line
+
+-- The text names the line at fault of the report which is checked, and the report is wrong.
+pub record IsWrongReport (r : Reading) (supply : Supply) (status : ℕ) (text : List ℕ) : Type 0 where
+  pub ready : Ready
+  pub report : List ℕ
+  pub asked : IsAsked r ready report
+  pub line : ℕ
+  pub at_fault : IsLineAtFault ready.script ready.media supply.coders report line
+  pub wrong : HoldBytesIn r → IsRight ready.script ready.media supply.coders report → ⊥
+  pub is_status : status ≡ 1
+  pub whole : text ≡ wrong_line line
+
+-- The text is what the command writes with status 0.
 abbrev pub IsWhole : Reading → Supply → List ℕ → Type 0
-IsWhole r supply text = IsReport r supply text ⊎ (IsProbe r text ⊎ IsSummary r supply text)
+IsWhole r supply text = IsReport r supply text ⊎ (IsProbe r text ⊎ (IsSummary r supply text ⊎ IsRightReport r supply text))
 
 -- The text is a beginning of what the command writes.
 pub record IsBegun (r : Reading) (supply : Supply) (text : List ℕ) : Type 0 where
@@ -139,12 +176,21 @@ pub record IsCut (r : Reading) (supply : Supply) (text : List ℕ) : Type 0 wher
   pub begun : (part ≡ []) ⊎ IsBegun r supply part
   pub whole : text ≡ part ++ memory_line
 
--- The name is that of the command's file, or of a chunk file that the script in it mentions, before which each gave its
--- chunks.
+-- The name is that of a chunk file that the script in the command's file mentions, before which each gave its chunks.
+abbrev pub IsMentioned : Reading → List ℕ → Type 0
+IsMentioned r name =
+    (m : Mode) × ((option_and_then mode_of (verb_in r.command) ≡ Some m)
+    × OfFile r (λ c files bytes. (s : ScriptData) × (playable_of m bytes ≡ Ok s) × IsReached r.content s name))
+
+-- The name is that of the report which is checked, whose script can be replayed.
+abbrev pub IsOfReport : Reading → List ℕ → Type 0
+IsOfReport r name =
+    (verb_in r.command ≡ Some verb.Check)
+    × OfFile r (λ c files bytes. (c.report ≡ name) × ((ready : Ready) × Becomes files (playable_of mode.InOrder bytes) (Ok (Runs ready))))
+
+-- The name is that of the command's file, of a chunk file that the script in it mentions, or of its report.
 abbrev pub IsNamed : Reading → List ℕ → Type 0
-IsNamed r name =
-    (file_in r.command ≡ Some name)
-    ⊎ ((m : Mode) × (verb_in r.command ≡ Some (verb.Run m)) × OfFile r (λ c files bytes. (s : ScriptData) × (playable_of m bytes ≡ Ok s) × IsReached r.content s name))
+IsNamed r name = (file_in r.command ≡ Some name) ⊎ (IsMentioned r name ⊎ IsOfReport r name)
 
 -- In this call a read of the file of this name failed, and no other read.
 abbrev pub HasFailed : Reading → List ℕ → Type 0
@@ -160,6 +206,10 @@ Comes r (fault.TooMany counted.Script) =
 Comes r (fault.TooMany counted.File) =
     IsSomeAnd r.command (λ c. MatchOption r.content (RoseBy 268435457 r.bytes_before r.bytes_after) (λ files.
     IsSomeAnd (files c.file) (λ bytes. IsOutcome c files bytes (Err (stop.Fault (fault.TooMany counted.File))))))
+Comes r (fault.TooMany counted.Report) =
+    (verb_in r.command ≡ Some verb.Check)
+    × IsSomeAnd r.command (λ c. MatchOption r.content (RoseBy 268435457 r.bytes_before r.bytes_after) (λ files.
+    IsSomeAnd (files c.file) (λ bytes. IsOutcome c files bytes (Err (stop.Fault (fault.TooMany counted.Report))))))
 Comes r x = ComesTo r (Err (stop.Fault x))
 
 -- The text is the line of usage, which comes where the words are no command.
@@ -175,11 +225,12 @@ pub record TellsFault (r : Reading) (status : ℕ) (text : List ℕ) : Type 0 wh
   pub is_status : status ≡ status_of told
   pub is_line : text ≡ line_of told
 
-abbrev pub IsRefusal : Reading → ℕ → List ℕ → Type 0
-IsRefusal r status text = IsUsage r status text ⊎ TellsFault r status text
+-- the line of a refusal, or that at fault in a report
+abbrev pub IsRefusal : Reading → Supply → ℕ → List ℕ → Type 0
+IsRefusal r supply status text = IsUsage r status text ⊎ (TellsFault r status text ⊎ IsWrongReport r supply status text)
 
 -- The four parts. With status 0 the sink's bytes are the earlier ones, followed by what the command writes: the report of a
--- run that is legal and fits the script, the line of the media file, or the summary of the load.
+-- run that is legal and fits the script, the line of the media file, the summary of the load, or that the report is right.
 pub record Written (r : Reading) (supply : Supply) (w : Writing) : Type 0 where
   pub text : List ℕ
   pub is_whole : IsWhole r supply text
@@ -195,38 +246,50 @@ pub record OutOfMemory (r : Reading) (supply : Supply) (w : Writing) : Type 0 wh
 pub record SinkFailed (r : Reading) (supply : Supply) (w : Writing) : Type 0 where
   pub rose : Rose w.faults_before w.faults_after
   pub text : List ℕ
-  pub allowed : IsWhole r supply text ⊎ (IsCut r supply text ⊎ ((status : ℕ) × IsRefusal r status text))
+  pub allowed : IsWhole r supply text ⊎ (IsCut r supply text ⊎ ((status : ℕ) × IsRefusal r supply status text))
   pub part : AppendsPart w.before text w.after
 
--- With every other status the line of a refusal was added, which comes only where its cause is.
-pub record Refused (r : Reading) (w : Writing) : Type 0 where
+-- With every other status the line of a refusal, or that at fault in a report, was added, which comes only where its cause is.
+pub record Refused (r : Reading) (supply : Supply) (w : Writing) : Type 0 where
   pub text : List ℕ
-  pub line : IsRefusal r w.answer text
+  pub line : IsRefusal r supply w.answer text
   pub told : w.after ≡ appended w.before text
 
 pub record Headline (r : Reading) (supply : Supply) (w : Writing) : Type 0 where
   pub written : w.answer ≡ 0 → Written r supply w
   pub out_of_memory : w.answer ≡ 6 → OutOfMemory r supply w
   pub sink_failed : w.answer ≡ 5 → SinkFailed r supply w
-  pub refused : w.answer ≢ 0 → w.answer ≢ 5 → w.answer ≢ 6 → Refused r w
+  pub refused : w.answer ≢ 0 → w.answer ≢ 5 → w.answer ≢ 6 → Refused r supply w
+
+-- The status of a verdict: 0 exactly where the report is right, and else 1. Files hold bytes.
+pub record IsVerdict (supply : Supply) (files : Holding) (ready : Ready) (report : List ℕ) (answer : ℕ) : Type 0 where
+  pub right : answer ≡ 0 → IsRight ready.script ready.media supply.coders report
+  pub only : HoldBytes files → IsRight ready.script ready.media supply.coders report → answer ≡ 0
+  pub wrong : answer ≢ 0 → answer ≡ 1
 
 -- the status for what a file's bytes come to, where nothing fails
-abbrev pub status_for : Outcome → ℕ
-status_for (Ok ending) = 0
-status_for (Err (stop.Fault x)) = status_of x
-status_for (Err stop.NoMemory) = 6
+abbrev pub IsStatusFor : Supply → Holding → Outcome → ℕ → Type 0
+IsStatusFor supply files (Ok (Judges ready report)) answer = IsVerdict supply files ready report answer
+IsStatusFor supply files (Ok ending) answer = answer ≡ 0
+IsStatusFor supply files (Err (stop.Fault x)) answer = answer ≡ status_of x
+IsStatusFor supply files (Err stop.NoMemory) answer = answer ≡ 6
 
--- Where no read, no write and no memory fails, the words and what the files hold alone give the status: so 2 comes exactly
--- where the words are no command, 7 exactly where a count is above its limit, and 3 exactly where the bytes spell no script
+-- Where no read, no write and no memory fails, the words and what the files hold alone give the status: so 1 comes exactly where the
+-- report that is checked is not right, 2 exactly where the words are no command, 7 exactly where a count is above its limit, and 3 exactly where the bytes spell no script
 -- that can be run so, a chunk file or the file of `probe` is no media file, or a chunk file lacks a chunk that is taken.
 -- Whatever the files hold, the file's bytes come to something.
-pub record Decides (r : Reading) (w : Writing) : Type 0 where
+pub record Decides (r : Reading) (supply : Supply) (w : Writing) : Type 0 where
   pub words : r.command ≡ None → w.answer ≢ 5 → w.answer ≢ 6 → w.answer ≡ 2
   pub file : IfFile r (λ c files bytes. (outcome : Outcome) → IsOutcome c files bytes outcome
-      → w.answer ≢ 4 → w.answer ≢ 5 → w.answer ≢ 6 → w.answer ≡ status_for outcome)
+      → w.answer ≢ 4 → w.answer ≢ 5 → w.answer ≢ 6 → IsStatusFor supply files outcome w.answer)
   pub some : IfFile r (λ c files bytes. (outcome : Outcome) × IsOutcome c files bytes outcome)
 
--- Where the file's bytes come to a script that can be run or to a media file's line, and no count of faults rose, the
--- status is 0 or want of memory.
+-- the status of what is written in the end: of a verdict 0 or 1
+abbrev pub IsEnd : Ending → ℕ → Type 0
+IsEnd (Judges ready report) answer = (answer ≡ 0) ⊎ (answer ≡ 1)
+IsEnd ending answer = answer ≡ 0
+
+-- Where the file's bytes come to a script that can be run, to a media file's line, or to a report that is judged, and no count of faults
+-- rose, the status is 0, or 1 of a verdict, or want of memory.
 abbrev pub IsComplete : Reading → Writing → Type 0
-IsComplete r w = IfFile r (λ c files bytes. (ending : Ending) → IsOutcome c files bytes (Ok ending) → ¬ Rose r.faults_before r.faults_after → ¬ Rose w.faults_before w.faults_after → w.answer ≢ 6 → w.answer ≡ 0)
+IsComplete r w = IfFile r (λ c files bytes. (ending : Ending) → IsOutcome c files bytes (Ok ending) → ¬ Rose r.faults_before r.faults_after → ¬ Rose w.faults_before w.faults_after → w.answer ≢ 6 → IsEnd ending w.answer)

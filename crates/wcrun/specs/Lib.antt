@@ -4,6 +4,7 @@ pub mod Probe
 pub mod Outcome
 pub mod Load
 pub mod Headline
+pub mod Judged
 pub mod Laws
 pub mod Writing
 pub mod Stops

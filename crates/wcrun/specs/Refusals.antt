@@ -78,3 +78,11 @@ usage_line = codes "usage: wcrun replay FILE | run FILE --workers N | load START
 -- the line for want of memory, whose status is 6
 abbrev pub memory_line : List ℕ
 memory_line = codes "out of memory\n"
+
+-- the line of a report that is right, whose status is 0
+abbrev pub right_line : List ℕ
+right_line = codes "right\n"
+
+-- the line of a report that is wrong, whose status is 1
+abbrev pub wrong_line : ℕ → List ℕ
+wrong_line line = codes "wrong: line " <> decimal line <> codes "\n"

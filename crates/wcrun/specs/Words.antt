@@ -1,5 +1,5 @@
 -- The words of a command line (our choice).
-use Rattle.std.specs.Prelude.{ℕ, suc, ◌≤◌, Bool, false, ◌==◌, List, [], ◌∷◌, ◌++◌, codes, bytes_eq, Option, Some, None, option_map, if◌then◌else◌, String, string_bytes, map}
+use Rattle.std.specs.Prelude.{◌≡◌, ◌≢◌, ℕ, suc, ◌≤◌, Bool, false, ◌==◌, List, [], ◌∷◌, ◌++◌, codes, bytes_eq, Option, Some, None, option_map, if◌then◌else◌, String, string_bytes, map}
 use Rattle.std.specs.declared.alloc.Global.{Global}
 use Rattle.load_script.specs.Words.{load_of}
 use Rattle.load_script.specs.declared.words.Load.{Load}
@@ -17,19 +17,31 @@ abbrev pub is_dashed : List ℕ → Bool
 is_dashed [] = false
 is_dashed (c ∷ rest) = c == 45
 
--- a command, and the file that it names; a load names none, and its file is an empty name
+-- A command, the file that it names, and the report that `check` names beside its script. What a command does not name is an empty
+-- name.
 pub record Command : Type 0 where
   pub verb : Verb
   pub file : List ℕ
+  pub report : List ℕ
+
+abbrev pub command_on : Verb → List ℕ → List ℕ → Command
+command_on verb file report = record { verb = verb; file = file; report = report }
+
+-- only a check names a report
+abbrev pub NamesReport : Verb → List ℕ → Type 0
+NamesReport v report = v ≢ verb.Check → report ≡ []
 
 abbrev pub command : Verb → List ℕ → Command
-command verb file = record { verb = verb; file = file }
+command verb file = command_on verb file []
 
 abbrev pub to_run : Mode → List ℕ → Option Command
 to_run mode file = Some (command (verb.Run mode) file)
 
 abbrev pub to_probe : List ℕ → Option Command
 to_probe file = Some (command verb.Probe file)
+
+abbrev pub to_check : List ℕ → List ℕ → Option Command
+to_check script report = Some (command_on verb.Check script report)
 
 abbrev pub is_word : List ℕ → List ℕ → Bool
 is_word word wanted = bytes_eq word wanted
@@ -96,13 +108,18 @@ abbrev pub load_command : Option Load → Option Command
 load_command None = None
 load_command (Some load) = Some (command (verb.Load load) [])
 
+-- a check of a script and a report, neither of whose words begins with a dash
+abbrev pub check_command : List ℕ → List ℕ → Option Command
+check_command script report = if is_dashed script then None else if is_dashed report then None else to_check script report
+
 abbrev pub with_three : List ℕ → List ℕ → List ℕ → Option Command
 with_three word first second =
     if is_word word (codes "run") then with_one first second
     else if is_word word (codes "load") then load_command (load_of first second)
+    else if is_word word (codes "check") then check_command first second
     else None
 
--- the command, where the words are `replay FILE`, `probe FILE`, `run FILE --workers N` or `load START N`
+-- the command, where the words are `replay FILE`, `probe FILE`, `run FILE --workers N`, `load START N` or `check SCRIPT REPORT`
 abbrev pub command_of : List (List ℕ) → Option Command
 command_of [] = None
 command_of (word ∷ []) = None

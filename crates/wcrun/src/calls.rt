@@ -3,16 +3,18 @@ ghost use Rattle.std.specs.Prelude.{◌≡◌, ◌≤◌, ◌⊎◌, true, map, 
 ghost use Rattle.run_model.specs.Fits.{IsLegalRun};
 ghost use Rattle.run_model.specs.Missing.{missing_in};
 ghost use Rattle.trace_text.specs.Report.{report_of};
-ghost use Rattle.wcrun.specs.Words.{words_of, command_of, to_probe, to_run, IsInRange};
+ghost use Rattle.wcrun.specs.Words.{words_of, command_of, to_check, to_probe, to_run, IsInRange};
 ghost use Rattle.wcrun.specs.declared.command.Mode.TheVariants as modes;
 ghost use Rattle.wcrun.specs.declared.command.Verb.TheVariants as verb;
-ghost use Rattle.wcrun.specs.Refusals.{status_of, line_of, usage_line, memory_line};
+ghost use Rattle.wcrun.specs.Refusals.{status_of, line_of, usage_line, memory_line, wrong_line};
+ghost use Rattle.work_moments.specs.Moments.{Telling};
 ghost use Rattle.wcrun.specs.Headline.{reading, writing, IsRunBy, IsRunOf, Headline, Decides, IsComplete};
 ghost use Rattle.wcrun.specs.Load.{Supply, supply_of, EndsLoad};
 ghost use Rattle.wcrun.specs.Stops.{MayStop};
 ghost use Rattle.wcrun.specs.Writing.{WritesText, WritesLine};
 
 use crate::Refusal;
+use crate::check::judge;
 use crate::command::{Mode, Verb, command_of};
 use crate::laws::files_have_one_outcome;
 use crate::load::run_load;
@@ -21,6 +23,7 @@ use crate::prepared::{Prepared, Ran};
 use crate::probe::probe;
 use codec_desk::{Clock, Gate};
 use coder_api::Coder;
+use report_check::Verdict;
 use run_model::Run;
 use script_types::{Fault, Script, Stop};
 use std::alloc::Global;
@@ -180,6 +183,7 @@ fn run_named<
         (reading (to_run mode name.now) (F.content files.old) (F.faults files.old) (F.faults files.new)
         (F.bytes_read files.old) (F.bytes_read files.new)
         (F.failed_names files.old) (F.failed_names files.new))
+        (supply_of (map C.coder coders.items) (map K.told clocks.items))
         (writing (S.told sink.old) (S.told sink.new) (S.faults sink.old) (S.faults sink.new) result) }
     ensures complete { IsComplete
         (reading (to_run mode name.now) (F.content files.old) (F.faults files.old) (F.faults files.new)
@@ -215,10 +219,10 @@ fn probe_named<F: Files, S: Sink>(alloc: Global, name: &str, files: &mut F, sink
         (F.bytes_read files.old) (F.bytes_read files.new)
         (F.failed_names files.old) (F.failed_names files.new)) supply
         (writing (S.told sink.old) (S.told sink.new) (S.faults sink.old) (S.faults sink.new) result) }
-    ensures decided { Decides
+    ensures decided { (supply : Supply) → Decides
         (reading (to_probe name.now) (F.content files.old) (F.faults files.old) (F.faults files.new)
         (F.bytes_read files.old) (F.bytes_read files.new)
-        (F.failed_names files.old) (F.failed_names files.new))
+        (F.failed_names files.old) (F.failed_names files.new)) supply
         (writing (S.told sink.old) (S.told sink.new) (S.faults sink.old) (S.faults sink.new) result) }
     ensures complete { IsComplete
         (reading (to_probe name.now) (F.content files.old) (F.faults files.old) (F.faults files.new)
@@ -235,12 +239,64 @@ fn probe_named<F: Files, S: Sink>(alloc: Global, name: &str, files: &mut F, sink
     }
 }
 
+// Ends with the line at fault in a report.
+fn tell_fault<S: Sink>(alloc: Global, line: u64, sink: &mut S) -> u8
+    ensures { WritesLine 1 (wrong_line line)
+        (writing (S.told sink.old) (S.told sink.new) (S.faults sink.old) (S.faults sink.new) result) }
+{
+    let Ok(told) = format!(in alloc; "wrong: line {line}\n") else {
+        return want_memory(sink);
+    };
+    match sink.write_all(told.as_bytes()) {
+        Ok(()) => 1,
+        Err(_) => 5,
+    }
+}
+
+// Ends with the verdict on the report of this name, by the script of the other name, or with the line of why there is none.
+fn check_named<F: Files, S: Sink, C: Coder>(
+    alloc: Global,
+    name: &str,
+    report: &str,
+    files: &mut F,
+    sink: &mut S,
+    coders: Vec<C>,
+) -> u8
+    ensures headline { (clocks : List Telling) → Headline
+        (reading (to_check name.now report.now) (F.content files.old)
+        (F.faults files.old) (F.faults files.new) (F.bytes_read files.old) (F.bytes_read files.new)
+        (F.failed_names files.old) (F.failed_names files.new))
+        (supply_of (map C.coder coders.items) clocks)
+        (writing (S.told sink.old) (S.told sink.new) (S.faults sink.old) (S.faults sink.new) result) }
+    ensures decided { (clocks : List Telling) → Decides
+        (reading (to_check name.now report.now) (F.content files.old)
+        (F.faults files.old) (F.faults files.new) (F.bytes_read files.old) (F.bytes_read files.new)
+        (F.failed_names files.old) (F.failed_names files.new))
+        (supply_of (map C.coder coders.items) clocks)
+        (writing (S.told sink.old) (S.told sink.new) (S.faults sink.old) (S.faults sink.new) result) }
+    ensures complete { IsComplete
+        (reading (to_check name.now report.now) (F.content files.old)
+        (F.faults files.old) (F.faults files.new) (F.bytes_read files.old) (F.bytes_read files.new)
+        (F.failed_names files.old) (F.failed_names files.new))
+        (writing (S.told sink.old) (S.told sink.new) (S.faults sink.old) (S.faults sink.new) result) }
+{
+    files_have_one_outcome();
+    match judge(alloc, name, report, files, coders) {
+        Ok(Verdict::Right) => tell("right\n", sink),
+        Ok(Verdict::Wrong { line }) => tell_fault(alloc, line, sink),
+        Err(Stop::Fault(fault)) => refuse(alloc, fault, sink),
+        Err(Stop::NoMemory) => want_memory(sink),
+    }
+}
+
 /// Carries out the command of these words, and gives the status with which the program ends.
 ///
 /// `words` are those of the command line, without the program's name. `replay FILE` reads the script in FILE, replays it
 /// with these coders, and writes the report of the run: status 0. `run FILE --workers N` does so with threads, and wants no
 /// order. `probe FILE` reads the media file FILE, and writes the line that tells what it holds: status 0. `load START N` runs a
-/// script that it draws with four workers, and writes a summary: status 0. Any other words are refused with the line of usage: 2.
+/// script that it draws with four workers, and writes a summary: status 0. `check SCRIPT REPORT` writes `right` where REPORT is the
+/// report of a legal run of SCRIPT that follows its order: status 0; else the line at fault: status 1. Any other words are refused
+/// with the line of usage: 2.
 /// There are at least 34 clocks and 34 gates, one for each thread that there may be and one for what is left then.
 /// A script file that is no JSON or has a fault, a script with no order that is replayed, a media file that is none or lacks a
 /// chunk that is taken, give 3; a file that is not read 4; a count above its limit 7; each with one line that names the place.
@@ -275,6 +331,7 @@ pub fn top<
         (reading (command_of (words_of words.now)) (F.content files.old) (F.faults files.old) (F.faults files.new)
         (F.bytes_read files.old) (F.bytes_read files.new)
         (F.failed_names files.old) (F.failed_names files.new))
+        (supply_of (map C.coder coders.items) (map K.told clocks.items))
         (writing (S.told sink.old) (S.told sink.new) (S.faults sink.old) (S.faults sink.new) result) }
     ensures complete { IsComplete
         (reading (command_of (words_of words.now)) (F.content files.old) (F.faults files.old) (F.faults files.new)
@@ -284,11 +341,12 @@ pub fn top<
     ensures loaded { EndsLoad (command_of (words_of words.now)) result }
 {
     match command_of(words) {
-        Some((Verb::Run(mode), name)) => {
+        Some((Verb::Run(mode), name, _)) => {
             run_named(rt, alloc, mode, name, files, sink, coders, clocks, gates)
         }
-        Some((Verb::Probe, name)) => probe_named(alloc, name, files, sink),
-        Some((Verb::Load(load), _)) => run_load(rt, alloc, load, sink, coders, clocks, gates),
+        Some((Verb::Probe, name, _)) => probe_named(alloc, name, files, sink),
+        Some((Verb::Load(load), _, _)) => run_load(rt, alloc, load, sink, coders, clocks, gates),
+        Some((Verb::Check, name, report)) => check_named(alloc, name, report, files, sink, coders),
         None => usage(sink),
     }
 }

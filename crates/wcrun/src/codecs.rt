@@ -106,3 +106,27 @@ macro_rules! coder_box {
 }
 
 pub(crate) use coder_box;
+
+/// How many boxes of each coder there are.
+pub(crate) const BOXES: u32 = 8;
+
+/// So many boxes of each coder; the last words are carried out where memory runs out. It is no function, as `coder_box`.
+macro_rules! coder_boxes {
+    ($alloc:expr, $stop:expr) => {{
+        let mut coders = Vec::new($alloc);
+        for role in [wc_config::Role::Decode, wc_config::Role::Encode] {
+            for _ in 0..$crate::codecs::BOXES {
+                for codec in $crate::codecs::all_codecs() {
+                    let kind = $crate::codecs::kind_of(role, *codec);
+                    let coder = $crate::codecs::coder_box!($alloc, role, kind, $stop);
+                    if coders.push(coder).is_err() {
+                        $stop
+                    }
+                }
+            }
+        }
+        coders
+    }};
+}
+
+pub(crate) use coder_boxes;

@@ -1,6 +1,6 @@
 // The words of the command line.
 ghost use Rattle.std.specs.Prelude.{◌≡◌, ◌≤◌, IfSome, option_map};
-ghost use Rattle.wcrun.specs.Words.{words_of, is_dashed, command, command_of, IsInRange};
+ghost use Rattle.wcrun.specs.Words.{words_of, is_dashed, command, command_on, command_of, IsInRange, NamesReport};
 ghost use Rattle.load_script.specs.Words.{load_of as load_words};
 ghost use Rattle.wcrun.specs.Words as spec;
 
@@ -24,6 +24,8 @@ pub enum Verb {
     Probe,
     /// A load is run; it names no file.
     Load(Load),
+    /// A report of the script in it is judged.
+    Check,
 }
 
 fn starts_with_dash(word: &str) -> bool
@@ -176,34 +178,70 @@ fn load_command<'a>(start: &'a str, chunks: &'a str) -> Option<(Verb, &'a str)>
     }
 }
 
+// A command that names no report.
+fn alone(named: Option<(Verb, &str)>) -> Option<(Verb, &str, &str)>
+    requires { IfSome named (λ c. IsInRange c.0) }
+    ensures told { option_map (λ c. command_on c.0 c.1.now c.2.now) result
+        ≡ option_map (λ c. command c.0 c.1.now) named.entry }
+    ensures few { IfSome result (λ c. IsInRange c.0) }
+    ensures named { IfSome result (λ c. NamesReport c.0 c.2.now) }
+{
+    match named {
+        Some((verb, file)) => Some((verb, file, "")),
+        None => None,
+    }
+}
+
+// A check of this script and this report.
+fn check_command<'a>(script: &'a str, report: &'a str) -> Option<(Verb, &'a str, &'a str)>
+    ensures told { option_map (λ c. command_on c.0 c.1.now c.2.now) result
+        ≡ spec.check_command script.now report.now }
+    ensures few { IfSome result (λ c. IsInRange c.0) }
+    ensures named { IfSome result (λ c. NamesReport c.0 c.2.now) }
+{
+    if starts_with_dash(script) || starts_with_dash(report) {
+        return None;
+    }
+    Some((Verb::Check, script, report))
+}
+
 // A command of three words.
-fn with_three<'a>(word: &'a str, first: &'a str, second: &'a str) -> Option<(Verb, &'a str)>
-    ensures told { option_map (λ c. command c.0 c.1.now) result
+fn with_three<'a>(
+    word: &'a str,
+    first: &'a str,
+    second: &'a str,
+) -> Option<(Verb, &'a str, &'a str)>
+    ensures told { option_map (λ c. command_on c.0 c.1.now c.2.now) result
         ≡ spec.with_three word.now first.now second.now }
     ensures few { IfSome result (λ c. IsInRange c.0) }
+    ensures named { IfSome result (λ c. NamesReport c.0 c.2.now) }
 {
     if is_word(word, "run") {
-        with_one(first, second)
+        alone(with_one(first, second))
     } else if is_word(word, "load") {
-        load_command(first, second)
+        alone(load_command(first, second))
+    } else if is_word(word, "check") {
+        check_command(first, second)
     } else {
         None
     }
 }
 
-/// The command of `replay FILE`, `probe FILE`, `run FILE --workers N` or `load START N` with its file, where the words are just
-/// these. The option may stand before FILE or after it, as two words or as `--workers=N`; without it there are four workers. A
-/// load names no file: its file is an empty name.
-pub fn command_of(words: &[String]) -> Option<(Verb, &str)>
-    ensures told { option_map (λ c. command c.0 c.1.now) result ≡ command_of (words_of words.now) }
+/// The command of `replay FILE`, `probe FILE`, `run FILE --workers N`, `load START N` or `check SCRIPT REPORT` with its file and
+/// its report, where the words are just these. The option may stand before FILE or after it, as two words or as `--workers=N`;
+/// without it there are four workers. What a command does not name is an empty name.
+pub fn command_of(words: &[String]) -> Option<(Verb, &str, &str)>
+    ensures told { option_map (λ c. command_on c.0 c.1.now c.2.now) result
+        ≡ command_of (words_of words.now) }
     ensures few { IfSome result (λ c. IsInRange c.0) }
+    ensures named { IfSome result (λ c. NamesReport c.0 c.2.now) }
 {
     match words {
-        [word, file] => on_file(file.as_str(), verb_of(word.as_str())),
+        [word, file] => alone(on_file(file.as_str(), verb_of(word.as_str()))),
         [word, first, second] => with_three(word.as_str(), first.as_str(), second.as_str()),
         [word, first, second, third] => {
             if is_word(word.as_str(), "run") {
-                with_two(first.as_str(), second.as_str(), third.as_str())
+                alone(with_two(first.as_str(), second.as_str(), third.as_str()))
             } else {
                 None
             }

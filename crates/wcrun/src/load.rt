@@ -62,6 +62,7 @@ pub(crate) fn run_load<
         (supply_of (map C.coder coders.items) (map K.told clocks.items))
         (writing (S.told sink.old) (S.told sink.new) (S.faults sink.old) (S.faults sink.new) result) }
     ensures decided { (r : Reading) → verb_in r.command ≡ Some (verb.Load load) → Decides r
+        (supply_of (map C.coder coders.items) (map K.told clocks.items))
         (writing (S.told sink.old) (S.told sink.new) (S.faults sink.old) (S.faults sink.new) result) }
     ensures complete { (r : Reading) → verb_in r.command ≡ Some (verb.Load load) → IsComplete r
         (writing (S.told sink.old) (S.told sink.new) (S.faults sink.old) (S.faults sink.new) result) }

@@ -3,6 +3,9 @@
 #![tactic(auto)]
 
 mod calls;
+mod check;
+#[cfg(test)]
+mod check_rows;
 mod clock;
 mod codecs;
 #[cfg(test)]
@@ -46,12 +49,13 @@ mod tests;
 mod video_encode_rows;
 #[cfg(test)]
 mod video_rows;
+mod wrong;
 
 pub use calls::top;
 use calls::want_memory;
 use clock::SystemClock;
 use codec_desk::OpenGate;
-use codecs::{all_codecs, coder_box, kind_of};
+use codecs::coder_boxes;
 pub use refusal::Refusal;
 use std::alloc::Global;
 use std::process::ExitCode;
@@ -61,10 +65,6 @@ use std::thread::Threads;
 use std::time::Instant;
 use std::{env, io};
 use wc_base::{NoMemory, Output, Sink, SystemFiles};
-use wc_config::Role;
-
-// How many boxes of each coder there are.
-const BOXES: u32 = 8;
 
 fn words(rt: &(impl Env + Alloc<A = Global>)) -> io::Result<Vec<String>> {
     let mut words = Vec::new(rt.alloc());
@@ -90,19 +90,7 @@ fn carry_out<S: Sink, R: Threads + Wait + Sync + rt::Files + rt::Clock + Alloc<A
     sink: &mut S,
 ) -> u8 {
     let alloc = rt.alloc();
-    // A function that handed out boxed coders would be refused: nothing could be told of what is in them.
-    let mut coders = Vec::new(alloc);
-    for role in [Role::Decode, Role::Encode] {
-        for _ in 0..BOXES {
-            for codec in all_codecs() {
-                let kind = kind_of(role, *codec);
-                let coder = coder_box!(alloc, role, kind, return want_memory(sink));
-                if coders.push(coder).is_err() {
-                    return want_memory(sink);
-                }
-            }
-        }
-    }
+    let coders = coder_boxes!(alloc, return want_memory(sink));
     let clock = SystemClock::since(rt, Instant::now(rt).ok());
     let Ok(clocks) = vec![in alloc; clock; 34] else {
         return want_memory(sink);

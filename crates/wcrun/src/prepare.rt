@@ -1,5 +1,5 @@
 // Reads a script and its chunk files, up to where it can be run.
-ghost use Rattle.std.specs.Prelude.{◌≡◌, ◌≤◌, ◌⊎◌, IfOk, IfErr, IfSome, IsSome, IsSomeAnd, Some, None, Ok, Err, length, ◌≢◌};
+ghost use Rattle.std.specs.Prelude.{◌≡◌, ◌≤◌, ◌⊎◌, IfOk, IfErr, OnOk, IfSome, IsSome, IsSomeAnd, Some, None, Ok, Err, length, ◌≢◌};
 ghost use Rattle.run_model.specs.Missing.{missing_in};
 ghost use Rattle.media_files.specs.Media.{FailedBy};
 ghost use Rattle.wcrun.specs.Headline.{reading, ComesTo};
@@ -143,6 +143,10 @@ pub fn prepare<F: Files>(
     name: &str,
     files: &mut F,
 ) -> Result<Prepared, Stop<Fault>>
+    ensures kept { F.content files.new ≡ F.content files.old }
+    ensures faults { F.faults files.old ≤ F.faults files.new }
+    ensures bytes { F.bytes_read files.old ≤ F.bytes_read files.new }
+    ensures names { OnOk result (F.failed_names files.new ≡ F.failed_names files.old) }
     ensures ok { IfOk result (λ p. ComesTo (reading (to_run mode name.now) (F.content files.old)
         (F.faults files.old) (F.faults files.new)
         (F.bytes_read files.old) (F.bytes_read files.new)

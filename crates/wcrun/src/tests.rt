@@ -10,7 +10,7 @@ use std::thread::Threads;
 use wc_base::{MemFiles, MemSink, NoMemory};
 use wc_config::{CodecId, Role};
 
-const ORDINARY: &str =
+pub(crate) const ORDINARY: &str =
     "{\"codecs\":[{\"name\":\"d\",\"kind\":\"audio-decoder\"}],\"callers\":[{\"name\":\"a\",\"steps\":[
 {\"do\":\"configure\",\"on\":\"d\",\"config\":{\"codec\":\"pcm-s16\",\"sampleRate\":8000,\"numberOfChannels\":1}},
 {\"do\":\"chunk\",\"as\":\"c\",\"init\":{\"type\":\"key\",\"timestamp\":0,\"data\":\"01000200\"}},
@@ -18,7 +18,7 @@ const ORDINARY: &str =
 \"order\":[\"a\",\"a\",\"a\",\"a\",{\"start\":\"d\"},{\"done\":\"d\",\"at\":1},{\"turn\":\"d\"},{\"turn\":\"d\"},
 {\"start\":\"d\"},{\"done\":\"d\",\"at\":2},{\"turn\":\"d\"},{\"turn\":\"d\"},{\"start\":\"d\"},{\"done\":\"d\",\"at\":3},{\"turn\":\"d\"},\"a\"]}";
 
-const ORDINARY_REPORT: &str = "wcrun report 1
+pub(crate) const ORDINARY_REPORT: &str = "wcrun report 1
 caller a
 0 d.0 ok
 1 ok
@@ -108,11 +108,11 @@ end
 ";
 
 // A script with no order, of which each run has the same report.
-const UNORDERED: &str =
+pub(crate) const UNORDERED: &str =
     "{\"codecs\":[],\"callers\":[{\"name\":\"a\",\"steps\":[{\"do\":\"chunk\",\"as\":\"c\",\"init\":{\"type\":\"key\",\"timestamp\":0,\"data\":\"01\"}},
 {\"do\":\"copy\",\"of\":\"c\",\"size\":1}]},{\"name\":\"b\",\"steps\":[]}]}";
 
-const UNORDERED_REPORT: &str =
+pub(crate) const UNORDERED_REPORT: &str =
     "wcrun report 1\ncaller a\n0 ok\n1 copied 1 01\ncaller b\npool\nslots\nheld 0\nend\n";
 
 // Tells one moment after another.

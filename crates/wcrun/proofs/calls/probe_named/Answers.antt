@@ -14,8 +14,8 @@ returns-in-Ok-clause-headline g c supply =
     (inr (inl (subst (λ (t : List ℕ). IsProbe (reading (to_probe c.args.name.now) (g.F.Files.content c.args.files.now) (g.F.Files.faults c.args.files.now) (g.F.Files.faults c.probe.new.files) (g.F.Files.bytes_read c.args.files.now) (g.F.Files.bytes_read c.probe.new.files) (g.F.Files.failed_names c.args.files.now) (g.F.Files.failed_names c.probe.new.files)) t) (sym c.as_str.ensures.value) c.in-Ok.ensures.line))) c.tell.ensures
 
 pub returns-in-Ok-clause-decided : goal.returns-in-Ok-clause-decided
-returns-in-Ok-clause-decided g c =
-    decides_whole c.files_have_one_outcome.ensures.one c.files_have_one_outcome.ensures.some (reading (to_probe c.args.name.now) (g.F.Files.content c.args.files.now) (g.F.Files.faults c.args.files.now) (g.F.Files.faults c.probe.new.files) (g.F.Files.bytes_read c.args.files.now) (g.F.Files.bytes_read c.probe.new.files) (g.F.Files.failed_names c.args.files.now) (g.F.Files.failed_names c.probe.new.files)) (writing (g.S.Sink.told c.args.sink.now) (g.S.Sink.told c.tell.new.sink) (g.S.Sink.faults c.args.sink.now) (g.S.Sink.faults c.tell.new.sink) c.tell.result) (Tells (string_bytes c.in-Ok.line)) _
+returns-in-Ok-clause-decided g c supply =
+    decides_whole c.files_have_one_outcome.ensures.one c.files_have_one_outcome.ensures.some (reading (to_probe c.args.name.now) (g.F.Files.content c.args.files.now) (g.F.Files.faults c.args.files.now) (g.F.Files.faults c.probe.new.files) (g.F.Files.bytes_read c.args.files.now) (g.F.Files.bytes_read c.probe.new.files) (g.F.Files.failed_names c.args.files.now) (g.F.Files.failed_names c.probe.new.files)) supply (writing (g.S.Sink.told c.args.sink.now) (g.S.Sink.told c.tell.new.sink) (g.S.Sink.faults c.args.sink.now) (g.S.Sink.faults c.tell.new.sink) c.tell.result) (Tells (string_bytes c.in-Ok.line)) _ tt
     (probe_comes (g.F.Files.content c.args.files.now) c.args.name.now (string_bytes c.in-Ok.line) (g.F.Files.faults c.args.files.now) (g.F.Files.faults c.probe.new.files) (g.F.Files.bytes_read c.args.files.now) (g.F.Files.bytes_read c.probe.new.files) (g.F.Files.failed_names c.args.files.now) (g.F.Files.failed_names c.probe.new.files) c.in-Ok.ensures.line) c.tell.ensures
 
 pub returns-in-Ok-clause-complete : goal.returns-in-Ok-clause-complete
@@ -29,11 +29,11 @@ returns-in-Err-Fault-clause-headline g c supply =
     headline_of_fault r supply _ c.in-Err-Fault.fault (stop_comes r c.in-Err-Fault.field-0 c.in-Err-Fault.fault q c.in-Err-Fault.ensures.stop) c.refuse.ensures
 
 pub returns-in-Err-Fault-clause-decided : goal.returns-in-Err-Fault-clause-decided
-returns-in-Err-Fault-clause-decided g c =
+returns-in-Err-Fault-clause-decided g c supply =
     let h = c.in-Err-Fault.field-0-is in
     let q : c.in-Err-Fault.field-0 ≡ Stop.Fault c.in-Err-Fault.fault = cc in
     let r : Reading = reading (to_probe c.args.name.now) (g.F.Files.content c.args.files.now) (g.F.Files.faults c.args.files.now) (g.F.Files.faults c.probe.new.files) (g.F.Files.bytes_read c.args.files.now) (g.F.Files.bytes_read c.probe.new.files) (g.F.Files.failed_names c.args.files.now) (g.F.Files.failed_names c.probe.new.files) in
-    decides_fault c.files_have_one_outcome.ensures.one c.files_have_one_outcome.ensures.some r _ c.in-Err-Fault.fault (stop_comes r c.in-Err-Fault.field-0 c.in-Err-Fault.fault q c.in-Err-Fault.ensures.stop) c.refuse.ensures
+    decides_fault c.files_have_one_outcome.ensures.one c.files_have_one_outcome.ensures.some r supply _ c.in-Err-Fault.fault (stop_comes r c.in-Err-Fault.field-0 c.in-Err-Fault.fault q c.in-Err-Fault.ensures.stop) c.refuse.ensures
 
 pub returns-in-Err-Fault-clause-complete : goal.returns-in-Err-Fault-clause-complete
 returns-in-Err-Fault-clause-complete g c =
@@ -46,7 +46,7 @@ pub returns-in-Err-NoMemory-clause-headline : goal.returns-in-Err-NoMemory-claus
 returns-in-Err-NoMemory-clause-headline g c supply = headline_of_memory _ supply _ c.want_memory.ensures
 
 pub returns-in-Err-NoMemory-clause-decided : goal.returns-in-Err-NoMemory-clause-decided
-returns-in-Err-NoMemory-clause-decided g c = decides_memory c.files_have_one_outcome.ensures.some _ _ c.want_memory.ensures
+returns-in-Err-NoMemory-clause-decided g c supply = decides_memory c.files_have_one_outcome.ensures.some _ supply _ c.want_memory.ensures
 
 pub returns-in-Err-NoMemory-clause-complete : goal.returns-in-Err-NoMemory-clause-complete
 returns-in-Err-NoMemory-clause-complete g c = complete_memory (reading (to_probe c.args.name.now) (g.F.Files.content c.args.files.now) (g.F.Files.faults c.args.files.now) (g.F.Files.faults c.probe.new.files) (g.F.Files.bytes_read c.args.files.now) (g.F.Files.bytes_read c.probe.new.files) (g.F.Files.failed_names c.args.files.now) (g.F.Files.failed_names c.probe.new.files)) (writing (g.S.Sink.told c.args.sink.now) (g.S.Sink.told c.want_memory.new.sink) (g.S.Sink.faults c.args.sink.now) (g.S.Sink.faults c.want_memory.new.sink) c.want_memory.result) c.want_memory.ensures

@@ -10,7 +10,7 @@ returns-in-Ok-clause-headline g c r asked =
     headline_of_load r _ _ c.args.load c.as_str.result.now asked (subst (IsLoaded c.args.load _) (sym c.as_str.ensures.value) c.in-Ok.ensures) c.tell.ensures
 
 pub returns-in-Ok-clause-decided : goal.returns-in-Ok-clause-decided
-returns-in-Ok-clause-decided g c r asked = decides_load r _ c.args.load asked (ends_whole _ _ c.tell.ensures)
+returns-in-Ok-clause-decided g c r asked = decides_load r _ _ c.args.load asked (ends_whole _ _ c.tell.ensures)
 
 pub returns-in-Ok-clause-complete : goal.returns-in-Ok-clause-complete
 returns-in-Ok-clause-complete g c r asked =
@@ -21,7 +21,7 @@ pub returns-in-Err-clause-headline : goal.returns-in-Err-clause-headline
 returns-in-Err-clause-headline g c r asked = headline_of_memory r _ _ c.want_memory.ensures
 
 pub returns-in-Err-clause-decided : goal.returns-in-Err-clause-decided
-returns-in-Err-clause-decided g c r asked = decides_load r _ c.args.load asked (ends_cut _ c.want_memory.ensures)
+returns-in-Err-clause-decided g c r asked = decides_load r _ _ c.args.load asked (ends_cut _ c.want_memory.ensures)
 
 pub returns-in-Err-clause-complete : goal.returns-in-Err-clause-complete
 returns-in-Err-clause-complete g c r asked =
