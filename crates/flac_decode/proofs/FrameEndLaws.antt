@@ -124,3 +124,11 @@ is_spelled laws info bytes f e =
     let c = long_cases info bytes f (ltb (length bytes) (2 ^ 61)) refl e in
     let a = laws.sound info bytes c.1 f c.2 in
     (a.bits, a.fine, omega (arith, ap (λ (p : Place). p.at) a.place, c.3))
+
+-- what is read at the start is the frame in front; where nothing is read, there is none
+pub front_read : (laws : FramesAreSpelled) (info : StreamInfo) (bytes : List ℕ) (f : FrameHeader × List ℤ) (q : Place) → frame_at info (start_of (take most bytes)) ≡ Some (f, q)
+    → EndsAt info bytes (Some (q.at / 8)) × (frame_of info (take (q.at / 8) bytes) ≡ Some f)
+front_read laws info bytes f q e = (ends_cases laws info bytes (Some (f, q)) e, front_eq laws info bytes (f, q) e)
+
+pub front_none : (laws : FramesAreSpelled) (info : StreamInfo) (bytes : List ℕ) → frame_at info (start_of (take most bytes)) ≡ None → EndsAt info bytes None
+front_none laws info bytes e = ends_cases laws info bytes None e

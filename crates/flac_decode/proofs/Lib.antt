@@ -4,5 +4,6 @@ pub mod FrameLaws
 pub mod FrameEndLaws
 mod Drained
 mod Served
+mod ShortLaws
 mod StereoLaws
 pub mod FoundLaws

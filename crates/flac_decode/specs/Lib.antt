@@ -2,3 +2,4 @@ pub mod Bounds
 pub mod Coder
 pub mod FrameEnd
 pub mod Reading
+pub mod Shortness

@@ -5,34 +5,44 @@ use Rattle.flac_definitions.specs.Bits.{Place}
 use Rattle.flac_definitions.specs.Header.{channels_of}
 use Rattle.flac_definitions.specs.Prediction.{samples_behind}
 use Rattle.flac_definitions.specs.Options.{◌>>=◌}
+use Rattle.flac_definitions.specs.Frame.{frame_of}
 use Rattle.flac_definitions.specs.declared.header.FrameHeader.{FrameHeader}
 use Rattle.codec_definitions.specs.Flac.{bytes_of_frame}
+use Rattle.flac_decode.specs.FrameEnd.{EndsAt}
+use Rattle.flac_decode.specs.Shortness.{is_short}
+use Rattle.flac_decode.specs.declared.end.FrontFrame.{FrontFrame}
 use Rattle.flac_decode.specs.declared.fault.FrameFault.{FrameFault}
 use Rattle.flac_decode.specs.declared.fault.FrameFault.TheVariants as fault
+use Rattle.flac_decode.specs.declared.fault.ReadFault.{ReadFault}
+use Rattle.flac_decode.specs.declared.fault.ReadFault.TheVariants as end
 
 -- a value, and where the reader stands then
-abbrev pub Gives : {X : Type 0} → Option (X × Place) → Result X FrameFault → Place → Type 0
+abbrev pub Gives : {X : Type 0} → Option (X × Place) → Result X ReadFault → Place → Type 0
 Gives read (Ok x) new = read ≡ Some (x, new)
-Gives read (Err fault.Refused) new = read ≡ None
-Gives read (Err fault.NoMemory) new = Unit {0}
+Gives read (Err end.Refused) new = read ≡ None
+Gives read (Err end.Short) new = read ≡ None
+Gives read (Err end.NoMemory) new = Unit {0}
 
 -- the same of a call that fills in a list
-abbrev pub Fills : {X : Type 0} → Option (X × Place) → Result (Unit {0}) FrameFault → Place → X → Type 0
+abbrev pub Fills : {X : Type 0} → Option (X × Place) → Result (Unit {0}) ReadFault → Place → X → Type 0
 Fills read (Ok t) new x = read ≡ Some (x, new)
-Fills read (Err fault.Refused) new x = read ≡ None
-Fills read (Err fault.NoMemory) new x = Unit {0}
+Fills read (Err end.Refused) new x = read ≡ None
+Fills read (Err end.Short) new x = read ≡ None
+Fills read (Err end.NoMemory) new x = Unit {0}
 
 -- the same of a call that fills in a list, and answers with a number
-abbrev pub FillsWith : Option ((List ℤ × ℕ) × Place) → Result ℕ FrameFault → Place → List ℤ → Type 0
+abbrev pub FillsWith : Option ((List ℤ × ℕ) × Place) → Result ℕ ReadFault → Place → List ℤ → Type 0
 FillsWith read (Ok n) new xs = read ≡ Some ((xs, n), new)
-FillsWith read (Err fault.Refused) new xs = read ≡ None
-FillsWith read (Err fault.NoMemory) new xs = Unit {0}
+FillsWith read (Err end.Refused) new xs = read ≡ None
+FillsWith read (Err end.Short) new xs = read ≡ None
+FillsWith read (Err end.NoMemory) new xs = Unit {0}
 
 -- the same of a frame
-abbrev pub FillsFrame : Option ((FrameHeader × List ℤ) × Place) → Result FrameHeader FrameFault → Place → List ℤ → Type 0
+abbrev pub FillsFrame : Option ((FrameHeader × List ℤ) × Place) → Result FrameHeader ReadFault → Place → List ℤ → Type 0
 FillsFrame read (Ok h) new samples = read ≡ Some ((h, samples), new)
-FillsFrame read (Err fault.Refused) new samples = read ≡ None
-FillsFrame read (Err fault.NoMemory) new samples = Unit {0}
+FillsFrame read (Err end.Refused) new samples = read ≡ None
+FillsFrame read (Err end.Short) new samples = read ≡ None
+FillsFrame read (Err end.NoMemory) new samples = Unit {0}
 
 -- the same of the frame that bytes are
 abbrev pub ReadsFrame : Option (FrameHeader × List ℤ) → Result FrameHeader FrameFault → List ℤ → Type 0
@@ -71,8 +81,19 @@ IsWithinLimits h = (h.block < 65536) × (h.assignment < 11) × (0 < h.depth) × 
 abbrev pub IsOfStream : StreamInfo → FrameHeader → Type 0
 IsOfStream info h = (channels_of h.assignment ≡ info.channels) × (h.depth ≡ info.depth)
 
--- memory was wanted
-abbrev pub IsWant : Result (Unit {0}) FrameFault → Type 0
-IsWant (Ok t) = Unit {0}
-IsWant (Err fault.Refused) = ⊥
-IsWant (Err fault.NoMemory) = Unit {0}
+-- a reading that ends for want of bits is told from one that is refused
+abbrev pub TellsShort : {X : Type 0} → Result X ReadFault → Bool → Type 0
+TellsShort (Err end.Short) short = short ≡ true
+TellsShort (Err end.Refused) short = short ≡ false
+TellsShort (Err end.NoMemory) short = Unit {0}
+TellsShort (Ok x) short = Unit {0}
+
+-- The frame in front of bytes, with its samples' bytes; or none, and whether reading them ended for want of bits.
+abbrev pub DecodesFront : StreamInfo → List ℕ → Result FrontFrame ReadFault → List ℕ → Type 0
+DecodesFront info bytes (Ok front) out =
+    EndsAt info bytes (Some front.size)
+    × ((f : FrameHeader × List ℤ)
+    × (frame_of info (take front.size bytes) ≡ Some f) × (front.block ≡ f.0.block) × (out ≡ bytes_of_frame f.0 f.1))
+DecodesFront info bytes (Err end.Refused) out = EndsAt info bytes None × (is_short info bytes ≡ false)
+DecodesFront info bytes (Err end.Short) out = EndsAt info bytes None × (is_short info bytes ≡ true)
+DecodesFront info bytes (Err end.NoMemory) out = Unit {0}

@@ -1,11 +1,13 @@
-// Where a frame ends.
-ghost use Rattle.std.specs.Prelude.{◌≡◌, ◌<◌, ◌^◌, take, IfOk, IfSome, length};
+// Where a frame ends, and the frame in front of bytes.
+ghost use Rattle.std.specs.Prelude.{◌≡◌, ◌<◌, ◌*◌, ◌^◌, take, IfOk, IfSome, length, Err};
+ghost use Rattle.codec_definitions.specs.Flac.{sample_size};
 ghost use Rattle.flac_definitions.specs.Bits.{start_of};
 ghost use Rattle.flac_definitions.specs.Frame.{frame_at};
 ghost use Rattle.flac_decode.specs.FrameEnd.{most, EndsAt, FramesAreFound, IsFront, front_of};
+ghost use Rattle.flac_decode.specs.Reading.{DecodesFront};
 
-use crate::fault::FrameFault;
-use crate::frame::read_frame;
+use crate::fault::ReadFault;
+use crate::frame::{read_frame, write_frame};
 use flac_bits::BitReader;
 use flac_laws::frames_are_spelled;
 use std::alloc::Global;
@@ -48,6 +50,39 @@ pub fn frame_end(alloc: Global, bytes: &[u8], info: &StreamInfo) -> Result<Optio
     }
 }
 
+/// Decodes the frame with which bytes begin, in one pass, of the stream that is described (RFC 9639, section 9): how many
+/// bytes it has, as `front_frame` says, and how many samples a channel. What `out` held is replaced by its samples' bytes,
+/// as `decode_frame` has them. Where no first bytes are a frame, `Short` exactly where reading them ends for want of bits,
+/// so that more bytes may make one, and else `Refused`; `out` stays then. `NoMemory` only where memory is wanted. `residual`
+/// and `samples` are room to work in, which a further call may use again.
+pub fn decode_front(
+    bytes: &[u8],
+    info: &StreamInfo,
+    residual: &mut Vec<i32>,
+    samples: &mut Vec<i64>,
+    out: &mut Vec<u8>,
+) -> Result<FrontFrame, ReadFault>
+    ensures decoded { DecodesFront info.now bytes.now result out.new.items }
+    ensures size { IfOk result
+        (λ f. length out.new.items ≡ f.block * (info.now.channels * sample_size info.now.depth)) }
+    ensures kept { result ≡ Err ReadFault.Refused → out.new ≡ out.old }
+    ensures kept_short { result ≡ Err ReadFault.Short → out.new ≡ out.old }
+{
+    frames_are_spelled();
+    let mut r = BitReader::new(front(bytes));
+    let header = match read_frame(&mut r, info, residual, samples) {
+        Ok(h) => h,
+        Err(e) => return Err(e),
+    };
+    match write_frame(&header, samples.as_slice(), out) {
+        Ok(()) => {
+            let (size, block) = ((r.at() / 8) as usize, header.block);
+            Ok(FrontFrame { size, block })
+        }
+        Err(NoMemory) => Err(ReadFault::NoMemory),
+    }
+}
+
 /// Bytes begin with one frame of a stream at most, and with one or with none. A frame has a byte at least, and fewer than
 /// 65,536 samples a channel (RFC 9639, section 9.1.6).
 pub fn frames_are_found()
@@ -82,7 +117,7 @@ fn front_in(
             size: (r.at() / 8) as usize,
             block: header.block,
         })),
-        Err(FrameFault::Refused) => Ok(None),
-        Err(FrameFault::NoMemory) => Err(NoMemory),
+        Err(ReadFault::Refused | ReadFault::Short) => Ok(None),
+        Err(ReadFault::NoMemory) => Err(NoMemory),
     }
 }

@@ -2,23 +2,25 @@
 ghost use Rattle.std.specs.Prelude.{◌≡◌, ◌+◌, ◌-◌, ◌*◌, ◌^◌, ◌<◌, ◌≤◌, length, take, IfOk, OnOk, unsigned_abs};
 ghost use Rattle.flac_definitions.specs.Residual.{signed_number};
 ghost use Rattle.flac_decode.specs.Bounds.{AreSmall};
-ghost use Rattle.flac_decode.specs.Reading.{Gives, Fills};
+ghost use Rattle.flac_decode.specs.Reading.{Gives, Fills, TellsShort};
+ghost use Rattle.flac_decode.specs.Shortness.{is_missing};
 ghost use Rattle.flac_definitions.specs.Subframe.{signed_at, samples_at};
 ghost use Rattle.flac_definitions.specs.Bits.{number_at};
 
-use crate::fault::FrameFault;
+use crate::fault::ReadFault;
 use flac_bits::BitReader;
 
 /// The number of the next bits.
-pub fn read_bits(r: &mut BitReader<'_>, n: u32) -> Result<u64, FrameFault>
+pub fn read_bits(r: &mut BitReader<'_>, n: u32) -> Result<u64, ReadFault>
     requires { n ≤ 64 }
     ensures read { Gives (number_at n r.old) result r.new }
+    ensures short { TellsShort result (is_missing (number_at n r.old)) }
     ensures bytes { r.new.bytes ≡ r.old.bytes }
     ensures fits { IfOk result (λ x. x < 2 ^ n) }
 {
     match r.take(n) {
         Ok(x) => Ok(x),
-        Err(_) => Err(FrameFault::Refused),
+        Err(_) => Err(ReadFault::Short),
     }
 }
 
@@ -39,10 +41,11 @@ fn signed_number(size: u32, number: u64) -> i64
 }
 
 /// The next bits as a number in two's complement.
-pub fn read_signed(r: &mut BitReader<'_>, size: u32) -> Result<i64, FrameFault>
+pub fn read_signed(r: &mut BitReader<'_>, size: u32) -> Result<i64, ReadFault>
     requires some { 0 < size }
     requires size { size ≤ 33 }
     ensures read { Gives (signed_at size r.old) result r.new }
+    ensures short { TellsShort result (is_missing (signed_at size r.old)) }
     ensures bytes { r.new.bytes ≡ r.old.bytes }
     ensures small { IfOk result (λ x. unsigned_abs x ≤ 2 ^ (size - 1)) }
 {
@@ -53,14 +56,11 @@ pub fn read_signed(r: &mut BitReader<'_>, size: u32) -> Result<i64, FrameFault>
 }
 
 /// As many samples as there are places.
-pub fn read_samples(
-    r: &mut BitReader<'_>,
-    depth: u32,
-    samples: &mut [i64],
-) -> Result<(), FrameFault>
+pub fn read_samples(r: &mut BitReader<'_>, depth: u32, samples: &mut [i64]) -> Result<(), ReadFault>
     requires some { 0 < depth }
     requires depth { depth ≤ 33 }
     ensures read { Fills (samples_at depth (length samples.old) r.old) result r.new samples.new }
+    ensures short { TellsShort result (is_missing (samples_at depth (length samples.old) r.old)) }
     ensures bytes { r.new.bytes ≡ r.old.bytes }
     ensures small { OnOk result (AreSmall (depth - 1) samples.new) }
 {

@@ -7,15 +7,17 @@ ghost use Rattle.flac_definitions.specs.Subframe.{channels_at};
 ghost use Rattle.flac_definitions.specs.Stereo.{channel_depth, is_side};
 ghost use Rattle.flac_definitions.specs.Frame.{footer_at, frame_at, frame_of};
 ghost use Rattle.codec_definitions.specs.Flac.{sample_size, bytes_of_frame};
-ghost use Rattle.flac_decode.specs.Reading.{Decodes, ReadsFrame, FillsFrame, IsWithinLimits, IsOfStream, IsWant};
+ghost use Rattle.flac_decode.specs.Reading.{Decodes, ReadsFrame, FillsFrame, IsWithinLimits, IsOfStream, TellsShort};
+ghost use Rattle.flac_decode.specs.Shortness.{short_channels, short_footer, short_frame};
 
-use crate::fault::FrameFault;
+use crate::fault::{FrameFault, ReadFault};
 use crate::fields::read_bits;
 use crate::output::write_samples;
 use crate::stereo::restore_channels;
 use crate::subframe::read_subframe;
 use flac_bits::{BitReader, crc16};
-use flac_frame::{FrameHeader, read_header};
+use flac_frame::{FrameHeader, HeaderFault, read_header};
+use wc_base::NoMemory;
 use wc_config::StreamInfo;
 
 /// Decodes the frame that `bytes` are, with nothing behind it, of the stream that is described (RFC 9639, section 9): the
@@ -41,7 +43,7 @@ pub fn decode_frame(
     };
     match write_frame(&header, samples.as_slice(), out) {
         Ok(()) => Ok(header.block),
-        Err(e) => Err(e),
+        Err(NoMemory) => Err(FrameFault::NoMemory),
     }
 }
 
@@ -64,7 +66,8 @@ fn read_whole_frame(
     let mut r = BitReader::new(bytes);
     let header = match read_frame(&mut r, info, residual, samples) {
         Ok(h) => h,
-        Err(e) => return Err(e),
+        Err(ReadFault::NoMemory) => return Err(FrameFault::NoMemory),
+        Err(_) => return Err(FrameFault::Refused),
     };
     if r.at() == 8 * bytes.len() as u64 {
         Ok(header)
@@ -80,8 +83,9 @@ pub fn read_frame(
     info: &StreamInfo,
     residual: &mut Vec<i32>,
     samples: &mut Vec<i64>,
-) -> Result<FrameHeader, FrameFault>
+) -> Result<FrameHeader, ReadFault>
     ensures read { FillsFrame (frame_at info.now r.old) result r.new samples.new.items }
+    ensures short { TellsShort result (short_frame info.now r.old) }
     ensures small { OnOk result (AreSmall 32 samples.new.items) }
     ensures length { IfOk result (λ h. length samples.new.items ≡ channels_of h.assignment * h.block) }
     ensures fits { IfOk result IsWithinLimits }
@@ -90,13 +94,14 @@ pub fn read_frame(
 {
     let header = match read_header(r, info) {
         Ok(h) => h,
-        Err(_) => return Err(FrameFault::Refused),
+        Err(HeaderFault::Short { .. }) => return Err(ReadFault::Short),
+        Err(_) => return Err(ReadFault::Refused),
     };
     let block = header.block as usize;
     let channels = channel_count(header.assignment);
     // What is there already is written over.
     if samples.resize(channels * block, 0).is_err() {
-        return Err(FrameFault::NoMemory);
+        return Err(ReadFault::NoMemory);
     }
     let places = samples.as_mut_slice();
     if let Err(e) = read_subframes(r, &header, block, channels, residual, places) {
@@ -108,7 +113,7 @@ pub fn read_frame(
     if restore_channels(header.assignment, header.depth as u32, block, places) {
         Ok(header)
     } else {
-        Err(FrameFault::Refused)
+        Err(ReadFault::Refused)
     }
 }
 
@@ -161,12 +166,14 @@ fn read_subframes(
     channels: usize,
     residual: &mut Vec<i32>,
     samples: &mut [i64],
-) -> Result<(), FrameFault>
+) -> Result<(), ReadFault>
     requires depth { header.now.depth ≤ 32 }
     requires block { block < 65536 }
     requires channels { channels ≤ 8 }
     requires samples { length samples.old ≡ channels * block }
     ensures read { Fills (channels_at header.now.assignment header.now.depth block 0 channels r.old) result r.new samples.new }
+    ensures short { TellsShort result
+        (short_channels header.now.assignment header.now.depth block 0 channels r.old) }
     ensures small { OnOk result (AreSmall 32 samples.new) }
     ensures bytes { r.new.bytes ≡ r.old.bytes }
 {
@@ -182,14 +189,15 @@ fn read_subframes(
 
 /// Zero bits up to a byte, and the sum of the bytes before.
 #[tactic(auto, unfolding(flac_definitions::specs::Frame::footer_at))]
-fn read_footer(r: &mut BitReader<'_>) -> Result<(), FrameFault>
+fn read_footer(r: &mut BitReader<'_>) -> Result<(), ReadFault>
     ensures read { Gives (footer_at r.old) result r.new }
+    ensures short { TellsShort result (short_footer r.old) }
     ensures bytes { r.new.bytes ≡ r.old.bytes }
 {
     let padding = (8 - r.at() % 8) % 8;
     match read_bits(r, padding as u32) {
         Ok(0) => {}
-        Ok(_) => return Err(FrameFault::Refused),
+        Ok(_) => return Err(ReadFault::Refused),
         Err(e) => return Err(e),
     }
     let counted = crc16(&r.bytes()[..(r.at() / 8) as usize]);
@@ -198,7 +206,7 @@ fn read_footer(r: &mut BitReader<'_>) -> Result<(), FrameFault>
             if kept == counted as u64 {
                 Ok(())
             } else {
-                Err(FrameFault::Refused)
+                Err(ReadFault::Refused)
             }
         }
         Err(e) => Err(e),
@@ -207,7 +215,7 @@ fn read_footer(r: &mut BitReader<'_>) -> Result<(), FrameFault>
 
 /// Gives the samples' bytes in place of `out`.
 #[tactic(auto, unfolding(codec_definitions::specs::Flac::bytes_of_frame))]
-fn write_frame(header: &FrameHeader, samples: &[i64], out: &mut Vec<u8>) -> Result<(), FrameFault>
+pub fn write_frame(header: &FrameHeader, samples: &[i64], out: &mut Vec<u8>) -> Result<(), NoMemory>
     requires block { header.now.block < 65536 }
     requires some { 0 < header.now.depth }
     requires depth { header.now.depth ≤ 32 }
@@ -215,7 +223,6 @@ fn write_frame(header: &FrameHeader, samples: &[i64], out: &mut Vec<u8>) -> Resu
     requires small { AreSmall 32 samples.now }
     ensures bytes { OnOk result (out.new.items ≡ bytes_of_frame header.now samples.now) }
     ensures size { OnOk result (length out.new.items ≡ header.now.block * (channels_of header.now.assignment * sample_size header.now.depth)) }
-    ensures fault { IsWant result }
 {
     let depth = header.depth as u32;
     let block = header.block as usize;
@@ -223,7 +230,7 @@ fn write_frame(header: &FrameHeader, samples: &[i64], out: &mut Vec<u8>) -> Resu
     let size = sample_size(depth);
     // What is there already is written over.
     if out.resize(block * (channels * size), 0).is_err() {
-        return Err(FrameFault::NoMemory);
+        return Err(NoMemory);
     }
     write_samples(
         channels,

@@ -14,6 +14,6 @@ mod stereo;
 mod subframe;
 
 pub use coder::FlacDecoder;
-pub use end::{FrontFrame, frame_end, frames_are_found, front_frame};
-pub use fault::FrameFault;
+pub use end::{FrontFrame, decode_front, frame_end, frames_are_found, front_frame};
+pub use fault::{FrameFault, ReadFault};
 pub use frame::decode_frame;

@@ -4,16 +4,17 @@ ghost use Rattle.flac_definitions.specs.Residual.{residual_at};
 ghost use Rattle.flac_decode.specs.Bounds.{AreSmall};
 ghost use Rattle.flac_decode.specs.Reading.{RestoresBehind};
 ghost use Rattle.flac_definitions.specs.Prediction.{samples_behind};
-ghost use Rattle.flac_decode.specs.Reading.{Fills, FillsWith};
+ghost use Rattle.flac_decode.specs.Reading.{Fills, FillsWith, TellsShort};
+ghost use Rattle.flac_decode.specs.Shortness.{short_residual, short_fixed, short_coefficients, short_linear};
 ghost use Rattle.flac_definitions.specs.Subframe.{samples_at, predictor_at, fixed_at, coefficients_at, linear_at};
 ghost use Rattle.flac_definitions.specs.Results.{without_fault};
 ghost use Rattle.flac_definitions.specs.Prediction.{fixed_coefficients};
 
-use crate::fault::FrameFault;
+use crate::fault::ReadFault;
 use crate::fields::{read_bits, read_samples};
 use crate::prediction::{restore, restore_any_order, restore_in};
 use flac_bits::BitReader;
-use flac_rice::read_residual_into;
+use flac_rice::{ResidualFault, read_residual_into};
 
 /// The residual of a block.
 fn read_block_residual(
@@ -21,19 +22,22 @@ fn read_block_residual(
     block: u32,
     order: u32,
     residual: &mut Vec<i32>,
-) -> Result<(), FrameFault>
+) -> Result<(), ReadFault>
     requires { order ≤ block }
     ensures read { Fills (without_fault (residual_at block order r.old)) result r.new residual.new.items }
+    ensures short { TellsShort result (short_residual (residual_at block order r.old)) }
     ensures length { OnOk result (length residual.new.items ≡ block - order) }
     ensures bytes { r.new.bytes ≡ r.old.bytes }
 {
     // What is there already is written over.
     if residual.resize((block - order) as usize, 0).is_err() {
-        return Err(FrameFault::NoMemory);
+        return Err(ReadFault::NoMemory);
     }
     match read_residual_into(r, block, order, residual.as_mut_slice()) {
         Ok(()) => Ok(()),
-        Err(_) => Err(FrameFault::Refused),
+        Err(ResidualFault::Short { .. }) => Err(ReadFault::Short),
+        Err(ResidualFault::NoMemory) => Err(ReadFault::NoMemory),
+        Err(_) => Err(ReadFault::Refused),
     }
 }
 
@@ -83,7 +87,7 @@ fn read_predicted_samples(
     depth: u32,
     residual: &mut Vec<i32>,
     samples: &mut [i64],
-) -> Result<(), FrameFault>
+) -> Result<(), ReadFault>
     requires count { length coefficients.now ≤ 32 }
     requires coefficients { AreSmall 14 coefficients.now }
     requires shift { shift < 16 }
@@ -95,6 +99,8 @@ fn read_predicted_samples(
     requires narrow { AreSmall (depth - 1) (take (length coefficients.now) samples.old) }
     ensures narrow { OnOk result (AreSmall (depth - 1) samples.new) }
     ensures read { Fills (predictor_at coefficients.now shift depth (length samples.old) (take (length coefficients.now) samples.old) r.old) result r.new samples.new }
+    ensures short { TellsShort result
+        (short_residual (residual_at (length samples.old) (length coefficients.now) r.old)) }
     ensures bytes { r.new.bytes ≡ r.old.bytes }
 {
     if let Err(e) = read_block_residual(
@@ -108,7 +114,7 @@ fn read_predicted_samples(
     if predict(coefficients, shift, depth, residual.as_slice(), samples) {
         Ok(())
     } else {
-        Err(FrameFault::Refused)
+        Err(ReadFault::Refused)
     }
 }
 
@@ -139,7 +145,7 @@ fn read_fixed_samples(
     depth: u32,
     residual: &mut Vec<i32>,
     samples: &mut [i64],
-) -> Result<(), FrameFault>
+) -> Result<(), ReadFault>
     requires order { order ≤ 4 }
     requires depth { depth ≤ 33 }
     requires some { 0 < depth }
@@ -149,6 +155,7 @@ fn read_fixed_samples(
     requires narrow { AreSmall (depth - 1) (take order samples.old) }
     ensures narrow { OnOk result (AreSmall (depth - 1) samples.new) }
     ensures read { Fills (predictor_at (fixed_coefficients order) 0 depth (length samples.old) (take order samples.old) r.old) result r.new samples.new }
+    ensures short { TellsShort result (short_residual (residual_at (length samples.old) order r.old)) }
     ensures bytes { r.new.bytes ≡ r.old.bytes }
 {
     let count = fixed_coefficients(order).len() as u32;
@@ -158,7 +165,7 @@ fn read_fixed_samples(
     if predict_fixed(order, depth, residual.as_slice(), samples) {
         Ok(())
     } else {
-        Err(FrameFault::Refused)
+        Err(ReadFault::Refused)
     }
 }
 
@@ -186,17 +193,18 @@ pub fn read_fixed(
     depth: u32,
     residual: &mut Vec<i32>,
     samples: &mut [i64],
-) -> Result<(), FrameFault>
+) -> Result<(), ReadFault>
     requires order { order ≤ 4 }
     requires depth { depth ≤ 33 }
     requires some { 0 < depth }
     requires block { length samples.old < 2 ^ 32 }
     ensures narrow { OnOk result (AreSmall (depth - 1) samples.new) }
     ensures read { Fills (fixed_at order depth (length samples.old) r.old) result r.new samples.new }
+    ensures short { TellsShort result (short_fixed order depth (length samples.old) r.old) }
     ensures bytes { r.new.bytes ≡ r.old.bytes }
 {
     if samples.len() < order as usize {
-        return Err(FrameFault::Refused);
+        return Err(ReadFault::Refused);
     }
     if let Err(e) = read_samples(r, depth, &mut samples[..order as usize]) {
         return Err(e);
@@ -205,8 +213,9 @@ pub fn read_fixed(
 }
 
 /// Coefficients and a shift.
-fn read_coefficients(r: &mut BitReader<'_>, coefficients: &mut [i64]) -> Result<u32, FrameFault>
+fn read_coefficients(r: &mut BitReader<'_>, coefficients: &mut [i64]) -> Result<u32, ReadFault>
     ensures read { FillsWith (coefficients_at (length coefficients.old) r.old) result r.new coefficients.new }
+    ensures short { TellsShort result (short_coefficients (length coefficients.old) r.old) }
     ensures shift { IfOk result (λ x. x < 16) }
     ensures small { OnOk result (AreSmall 14 coefficients.new) }
     ensures bytes { r.new.bytes ≡ r.old.bytes }
@@ -225,7 +234,7 @@ fn read_coefficients(r: &mut BitReader<'_>, coefficients: &mut [i64]) -> Result<
             Err(e) => Err(e),
         }
     } else {
-        Err(FrameFault::Refused)
+        Err(ReadFault::Refused)
     }
 }
 
@@ -237,17 +246,18 @@ pub fn read_linear(
     depth: u32,
     residual: &mut Vec<i32>,
     samples: &mut [i64],
-) -> Result<(), FrameFault>
+) -> Result<(), ReadFault>
     requires order { order ≤ 32 }
     requires depth { depth ≤ 33 }
     requires some { 0 < depth }
     requires block { length samples.old < 2 ^ 32 }
     ensures narrow { OnOk result (AreSmall (depth - 1) samples.new) }
     ensures read { Fills (linear_at order depth (length samples.old) r.old) result r.new samples.new }
+    ensures short { TellsShort result (short_linear order depth (length samples.old) r.old) }
     ensures bytes { r.new.bytes ≡ r.old.bytes }
 {
     if samples.len() < order as usize {
-        return Err(FrameFault::Refused);
+        return Err(ReadFault::Refused);
     }
     if let Err(e) = read_samples(r, depth, &mut samples[..order as usize]) {
         return Err(e);

@@ -2,7 +2,7 @@
 ghost use Rattle.std.specs.Prelude.{◌≡◌, ◌≤◌, ◌<◌};
 
 use crate::frames;
-use flac_decode::{FrameFault, decode_frame, frame_end};
+use flac_decode::{FrameFault, ReadFault, decode_frame, decode_front, frame_end};
 use std::alloc::Global;
 use std::process::Abort;
 use std::test::Fail;
@@ -122,6 +122,41 @@ fn a_frame_ends_behind_its_sum(rt: HostRuntime) -> Result<(), Fail> {
     assert_eq!(rt; frame_end(rt.alloc(), &FIRST, &info)?, Some(15));
     assert_eq!(rt; frame_end(rt.alloc(), &LONGER, &info)?, Some(15));
     assert_eq!(rt; frame_end(rt.alloc(), &FIRST[..14], &info)?, None);
+    Ok(())
+}
+
+/// The samples a channel of the frame in front of bytes, how many bytes it has, and its samples' bytes.
+fn next(
+    alloc: Global,
+    bytes: &[u8],
+    info: &StreamInfo,
+) -> Result<(u32, usize, Vec<u8>), ReadFault> {
+    let mut residual = Vec::new(alloc);
+    let mut samples = Vec::new(alloc);
+    let mut out = Vec::new(alloc);
+    match decode_front(bytes, info, &mut residual, &mut samples, &mut out) {
+        Ok(front) => Ok((front.block, front.size, out)),
+        Err(e) => Err(e),
+    }
+}
+
+#[test]
+fn the_next_frame_of_a_stream(rt: HostRuntime) -> Result<(), Fail> {
+    let info = described(44100, 2, 16);
+    for frame in [FIRST.as_slice(), LONGER.as_slice()] {
+        let (block, size, bytes) = next(rt.alloc(), frame, &info).ok().ok_or("refused")?;
+        assert_eq!(rt; block, 1);
+        assert_eq!(rt; size, 15);
+        assert_eq!(rt; bytes.as_slice(), [0xf4, 0x63, 0xb0, 0x28].as_slice());
+    }
+    for size in 0..15 {
+        let cut = next(rt.alloc(), &FIRST[..size], &info);
+        assert!(rt; matches!(cut, Err(ReadFault::Short)), "of {size}");
+    }
+    let summed = next(rt.alloc(), &OTHER_SUM, &info);
+    assert!(rt; matches!(summed, Err(ReadFault::Refused)));
+    let marked = next(rt.alloc(), &FIRST[1..], &info);
+    assert!(rt; matches!(marked, Err(ReadFault::Refused)));
     Ok(())
 }
 

@@ -1,13 +1,14 @@
 //! Decodes the FLAC frames of a file, to measure what a sample costs and to compare the samples with another
 //! decoder's: `flac_speed decode FILE` prints how many samples a channel came out, `flac_speed write FILE` writes their
 //! bytes, `flac_speed each FILE` writes a line for each frame (its samples a channel and the checksum of its bytes, or `-`
-//! where it is refused), and `flac_speed read FILE` only counts the frames. The file has the description of a FLAC decoder's config (42
+//! where it is refused), and `flac_speed read FILE` only counts the frames. `flac_speed next FILE` decodes as `decode` does,
+//! without being told where a frame ends. The file has the description of a FLAC decoder's config (42
 //! bytes), and then each frame behind its size in four bytes, the most significant first.
 #![tactic(auto)]
 
 ghost use Rattle.std.specs.Prelude.{◌<◌, ◌≤◌};
 
-use flac_decode::{FrameFault, decode_frame};
+use flac_decode::{FrameFault, decode_frame, decode_front};
 use std::alloc::Global;
 use std::fs::File;
 use std::io::{BufReader, BufWriter, Read, Write};
@@ -21,6 +22,7 @@ use wc_config::{StreamInfo, read_streaminfo};
 enum Work {
     Read,
     Decode,
+    Next,
     Write,
     Each,
 }
@@ -29,6 +31,7 @@ fn work_of(word: &str) -> Option<Work> {
     match word {
         "read" => Some(Work::Read),
         "decode" => Some(Work::Decode),
+        "next" => Some(Work::Next),
         "write" => Some(Work::Write),
         "each" => Some(Work::Each),
         _ => None,
@@ -65,12 +68,18 @@ fn work_on<W: Write>(
         samples,
         out,
     } = buffers;
+    if work == Work::Next {
+        return Ok(match decode_front(frame, info, residual, samples, out) {
+            Ok(front) => Some(u64::from(front.block)),
+            Err(_) => None,
+        });
+    }
     match decode_frame(frame, info, residual, samples, out) {
         Ok(block) => {
             match work {
                 Work::Write => writer.write_all(out)?,
                 Work::Each => writeln!(writer, "{block} {:016x}", checksum(out))?,
-                Work::Read | Work::Decode => {}
+                Work::Read | Work::Decode | Work::Next => {}
             }
             Ok(Some(u64::from(block)))
         }
@@ -158,7 +167,7 @@ fn run(rt: &HostRuntime, words: &[String]) -> io::Result<Option<u64>> {
     let counted = work_on_all(rt.alloc(), work, &mut reader, &mut writer)?;
     writer.flush()?;
     Ok(match work {
-        Work::Read | Work::Decode => counted,
+        Work::Read | Work::Decode | Work::Next => counted,
         Work::Write | Work::Each => counted.map(|_| 0),
     })
 }
