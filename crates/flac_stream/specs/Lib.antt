@@ -1,0 +1,4 @@
+pub mod Head
+pub mod Reading
+pub mod Next
+pub mod Sums
