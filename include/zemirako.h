@@ -1,8 +1,9 @@
 /* zemirako.h: the coders of Zemirako for C.
  *
- * Both laws of ITU-T G.711 over whole buffers; of FLAC (RFC 9639) descriptions, the ends of frames, frames decoded and blocks
- * coded; copies of sound in other formats. The library is proved: each call is safe, ends, and answers as said here, where its caller does what follows. No
- * proof covers the caller, this header, or malloc, realloc and free.
+ * Both laws of ITU-T G.711 over whole buffers; of FLAC (RFC 9639) descriptions, the ends of frames, frames decoded (also
+ * from a stream, as its bytes come), the heads of streams, and blocks coded; copies of sound in other formats. The library is proved: each call is
+ * safe, ends, and answers as said here, where its caller does what follows. No proof covers the caller, this header, or
+ * malloc, realloc and free.
  *
  * What the caller owes:
  * - A slice is a pointer and, behind it, a count of elements: so many can be read there, or written where it is not const.
@@ -21,7 +22,7 @@
  *
  * Each call but zemirako_flac_most_bytes answers with a status. A call never writes past the count of a room. Where its
  * status is another than ZEMIRAKO_DONE, rooms are as they were; so is each value that it gives through a pointer, but for
- * the need that ZEMIRAKO_TOO_SMALL says.
+ * those that are said below to be written with another status.
  */
 #ifndef ZEMIRAKO_H
 #define ZEMIRAKO_H
@@ -41,6 +42,7 @@ extern "C" {
 #define ZEMIRAKO_NO_MEMORY 2u /* malloc or realloc gave none. */
 #define ZEMIRAKO_TOO_SMALL 3u /* What there is to write does not fit the room. */
 #define ZEMIRAKO_INVALID 4u   /* An argument is out of its range. */
+#define ZEMIRAKO_NEED_MORE 8u /* The bytes end before what they are to be does. 5 to 7 are of zemirako_engine.h. */
 
 /* ---- G.711. A code is a byte, and stands for a sample of 16 bits. They take no memory. */
 
@@ -101,6 +103,50 @@ uint32_t zemirako_flac_frame_end(const uint8_t *bytes, size_t bytes_count, const
  * ZEMIRAKO_NO_MEMORY; or ZEMIRAKO_INVALID exactly where the description's depth is not 1 to 32. */
 uint32_t zemirako_flac_decode_frame(const uint8_t *frame, size_t frame_count, const zemirako_flac_description *description,
                                     int32_t *samples, size_t samples_count, uint32_t *block);
+
+/* Decodes the FLAC frame of the described stream with which `bytes` begin, in one pass; bytes behind it do not matter. `size`
+ * is how many bytes it has: so many first bytes are a frame, and no other number of them is. Its samples and `block` are as
+ * of zemirako_flac_decode_frame. It takes memory.
+ * ZEMIRAKO_DONE; ZEMIRAKO_TOO_SMALL where samples_count is below block * channels, and then only `block` and `size` are
+ * written; ZEMIRAKO_NO_MEMORY; ZEMIRAKO_INVALID exactly where the description's depth is not 1 to 32; and else no first
+ * bytes are a frame of the stream: ZEMIRAKO_NEED_MORE where reading them as one, field by field, ends for want of bits, and
+ * ZEMIRAKO_REFUSED where it ends at a bit that is there. After ZEMIRAKO_NEED_MORE call again with the same bytes and more
+ * behind them; at the stream's end no whole frame is left. */
+uint32_t zemirako_flac_decode_next(const uint8_t *bytes, size_t bytes_count, const zemirako_flac_description *description,
+                                   int32_t *samples, size_t samples_count, uint32_t *block, size_t *size);
+
+/* Where the parts of a native FLAC stream begin, in bytes from its first on. */
+typedef struct zemirako_flac_places {
+    size_t first_frame; /* the first frame */
+    size_t seek_table;  /* the first point of the seek table (RFC 9639, section 8.5); 0 without one */
+    size_t seek_points; /* how many points it has, of 18 bytes each */
+} zemirako_flac_places;
+
+/* Reads the head of a native FLAC stream at the front of `bytes`: `fLaC`, the block STREAMINFO, and the other blocks of
+ * metadata, which are passed over, up to the one that is marked as the last. Points of a seek table are not looked at. It
+ * takes no memory.
+ * ZEMIRAKO_DONE; ZEMIRAKO_NEED_MORE exactly where the bytes end within a head: some bytes behind them make it whole; or
+ * ZEMIRAKO_REFUSED exactly where none do. A stream with a rate of 0 or a depth below 4 has no head. After ZEMIRAKO_NEED_MORE
+ * call again with the same bytes and more behind them. */
+uint32_t zemirako_flac_read_head(const uint8_t *bytes, size_t bytes_count, zemirako_flac_description *description,
+                                 zemirako_flac_places *places);
+
+/* Finds where a frame of the described stream begins, at the place `from` of `bytes` or behind it, and puts it into `place`:
+ * the first place at which a frame's header reads (RFC 9639, section 9.1), with its sync code, its fields and its sum. A
+ * stream is taken up so again behind damage, or from its middle. What stands behind the header is not looked at; sound may
+ * spell a header too. It takes no memory.
+ * ZEMIRAKO_DONE; ZEMIRAKO_NEED_MORE where no header is whole in the bytes from `from` on, and then `place` is the first place
+ * from there on at which reading a header ends for want of bits: bytes before it are wanted no more; or ZEMIRAKO_INVALID
+ * exactly where the description's depth is not 1 to 32. */
+uint32_t zemirako_flac_next_frame(const uint8_t *bytes, size_t bytes_count, size_t from,
+                                  const zemirako_flac_description *description, size_t *place);
+
+/* Puts the MD5 sum of all samples of a stream at the front of `sum`, as a description has it (RFC 9639, section 8.2).
+ * `samples` are frame by frame (interleaved), each of `depth` bits. It takes no memory.
+ * ZEMIRAKO_DONE; ZEMIRAKO_TOO_SMALL exactly where sum_count is below 16 and the depth is in its range; or ZEMIRAKO_INVALID
+ * exactly where the depth is not 1 to 32. */
+uint32_t zemirako_flac_sum_samples(const int32_t *samples, size_t samples_count, uint32_t depth, uint8_t *sum,
+                                   size_t sum_count);
 
 /* What the blocks of a stream that is coded have in common. */
 typedef struct zemirako_flac_format {

@@ -240,19 +240,19 @@ static const struct {
     size_t count;   /* how many bytes of the example's frame and of a zero behind it */
     int at, byte;   /* the byte that is changed, and its value */
     uint32_t channels, depth;
-    uint32_t end, decode; /* the statuses */
+    uint32_t end, decode, next; /* the statuses */
 } frame_rows[] = {
-    {"whole", FRAME, 0, 0xff, 2, 16, ZEMIRAKO_DONE, ZEMIRAKO_DONE},
-    {"a byte behind", FRAME + 1, 0, 0xff, 2, 16, ZEMIRAKO_DONE, ZEMIRAKO_REFUSED},
-    {"a byte short", FRAME - 1, 0, 0xff, 2, 16, ZEMIRAKO_REFUSED, ZEMIRAKO_REFUSED},
-    {"empty", 0, 0, 0xff, 2, 16, ZEMIRAKO_REFUSED, ZEMIRAKO_REFUSED},
-    {"no mark", FRAME, 0, 0xfe, 2, 16, ZEMIRAKO_REFUSED, ZEMIRAKO_REFUSED},
-    {"another sum", FRAME, FRAME - 1, 0x9b, 2, 16, ZEMIRAKO_REFUSED, ZEMIRAKO_REFUSED},
-    {"another sample", FRAME, 8, 0x59, 2, 16, ZEMIRAKO_REFUSED, ZEMIRAKO_REFUSED},
-    {"another channel count", FRAME, 0, 0xff, 1, 16, ZEMIRAKO_REFUSED, ZEMIRAKO_REFUSED},
-    {"another depth", FRAME, 0, 0xff, 2, 24, ZEMIRAKO_REFUSED, ZEMIRAKO_REFUSED},
-    {"depth of 0", FRAME, 0, 0xff, 2, 0, ZEMIRAKO_INVALID, ZEMIRAKO_INVALID},
-    {"depth of 33", FRAME, 0, 0xff, 2, 33, ZEMIRAKO_INVALID, ZEMIRAKO_INVALID},
+    {"whole", FRAME, 0, 0xff, 2, 16, ZEMIRAKO_DONE, ZEMIRAKO_DONE, ZEMIRAKO_DONE},
+    {"a byte behind", FRAME + 1, 0, 0xff, 2, 16, ZEMIRAKO_DONE, ZEMIRAKO_REFUSED, ZEMIRAKO_DONE},
+    {"a byte short", FRAME - 1, 0, 0xff, 2, 16, ZEMIRAKO_REFUSED, ZEMIRAKO_REFUSED, ZEMIRAKO_NEED_MORE},
+    {"empty", 0, 0, 0xff, 2, 16, ZEMIRAKO_REFUSED, ZEMIRAKO_REFUSED, ZEMIRAKO_NEED_MORE},
+    {"no mark", FRAME, 0, 0xfe, 2, 16, ZEMIRAKO_REFUSED, ZEMIRAKO_REFUSED, ZEMIRAKO_REFUSED},
+    {"another sum", FRAME, FRAME - 1, 0x9b, 2, 16, ZEMIRAKO_REFUSED, ZEMIRAKO_REFUSED, ZEMIRAKO_REFUSED},
+    {"another sample", FRAME, 8, 0x59, 2, 16, ZEMIRAKO_REFUSED, ZEMIRAKO_REFUSED, ZEMIRAKO_REFUSED},
+    {"another channel count", FRAME, 0, 0xff, 1, 16, ZEMIRAKO_REFUSED, ZEMIRAKO_REFUSED, ZEMIRAKO_REFUSED},
+    {"another depth", FRAME, 0, 0xff, 2, 24, ZEMIRAKO_REFUSED, ZEMIRAKO_REFUSED, ZEMIRAKO_REFUSED},
+    {"depth of 0", FRAME, 0, 0xff, 2, 0, ZEMIRAKO_INVALID, ZEMIRAKO_INVALID, ZEMIRAKO_INVALID},
+    {"depth of 33", FRAME, 0, 0xff, 2, 33, ZEMIRAKO_INVALID, ZEMIRAKO_INVALID, ZEMIRAKO_INVALID},
 };
 
 static void try_frames(void)
@@ -278,6 +278,115 @@ static void try_frames(void)
         else
             expect(samples[0] == 5 && samples[1] == 6 && block == 99, "samples stay", frame_rows[i].row);
         expect(samples[2] == 7, "nothing behind the samples", frame_rows[i].row);
+        size_t size = 99;
+        samples[0] = 5, samples[1] = 6, block = 99;
+        status = zemirako_flac_decode_next(bytes, frame_rows[i].count, &d, samples, 3, &block, &size);
+        expect(status == frame_rows[i].next, "status of the next frame", frame_rows[i].row);
+        if (status == ZEMIRAKO_DONE)
+            expect(samples[0] == 25588 && samples[1] == 10416 && block == 1 && size == FRAME, "next", frame_rows[i].row);
+        else
+            expect(samples[0] == 5 && samples[1] == 6 && block == 99 && size == 99, "next stays", frame_rows[i].row);
+        expect(samples[2] == 7, "nothing behind the next samples", frame_rows[i].row);
+        free(bytes);
+    }
+}
+
+/* A file that flac 1.4.2 wrote: 40 samples of one channel of 16 bits at 8 kHz, in three frames at 137, 165 and 194. Behind
+ * the description are a seek table of two points at 46, and tags. */
+static const uint8_t file[] = {
+    0x66, 0x4c, 0x61, 0x43, 0x00, 0x00, 0x00, 0x22, 0x00, 0x10, 0x00, 0x10, 0x00, 0x00, 0x14, 0x00, 0x00, 0x1d, 0x01,
+    0xf4, 0x00, 0xf0, 0x00, 0x00, 0x00, 0x28, 0xee, 0xf7, 0x0c, 0x9f, 0x32, 0x33, 0x0b, 0x12, 0xe9, 0xa3, 0x1b, 0x56,
+    0x87, 0xbe, 0x5c, 0xb1, 0x03, 0x00, 0x00, 0x24, 0x00, 0x00, 0x00, 0x00, 0x00, 0x00, 0x00, 0x00, 0x00, 0x00, 0x00,
+    0x00, 0x00, 0x00, 0x00, 0x00, 0x00, 0x10, 0x00, 0x00, 0x00, 0x00, 0x00, 0x00, 0x00, 0x10, 0x00, 0x00, 0x00, 0x00,
+    0x00, 0x00, 0x00, 0x1c, 0x00, 0x10, 0x84, 0x00, 0x00, 0x33, 0x20, 0x00, 0x00, 0x00, 0x72, 0x65, 0x66, 0x65, 0x72,
+    0x65, 0x6e, 0x63, 0x65, 0x20, 0x6c, 0x69, 0x62, 0x46, 0x4c, 0x41, 0x43, 0x20, 0x31, 0x2e, 0x34, 0x2e, 0x32, 0x20,
+    0x32, 0x30, 0x32, 0x32, 0x31, 0x30, 0x32, 0x32, 0x01, 0x00, 0x00, 0x00, 0x07, 0x00, 0x00, 0x00, 0x54, 0x49, 0x54,
+    0x4c, 0x45, 0x3d, 0x78, 0xff, 0xf8, 0x64, 0x08, 0x00, 0x0f, 0xce, 0x10, 0x01, 0x84, 0x77, 0xd6, 0x04, 0x03, 0xa6,
+    0xae, 0x87, 0xf7, 0x23, 0x36, 0x35, 0x98, 0x85, 0xb3, 0x3d, 0xf0, 0xb3, 0xe1, 0xff, 0xf8, 0x64, 0x08, 0x01, 0x0f,
+    0xdb, 0x12, 0xff, 0xb5, 0x01, 0xaf, 0x1c, 0x92, 0xd2, 0x0e, 0xb8, 0x5c, 0x89, 0x72, 0x0b, 0x8c, 0x3c, 0x84, 0x6e,
+    0xeb, 0x80, 0x68, 0x52, 0xff, 0xf8, 0x64, 0x08, 0x02, 0x07, 0xdc, 0x10, 0x01, 0xa0, 0x4d, 0x78, 0x81, 0x70, 0x45,
+    0x7e, 0x11, 0x00, 0x38, 0x58,
+};
+#define FIRST 137
+
+static void try_heads(void)
+{
+    static const struct {
+        const char *row;
+        int at, byte;            /* the byte that is changed, and its value */
+        size_t more;             /* of fewer bytes more are wanted */
+        uint32_t status;         /* from so many on */
+        size_t frame, seek, points;
+    } rows[] = {
+        {"whole", 0, 'f', FIRST, ZEMIRAKO_DONE, FIRST, 46, 2},
+        {"description alone", 4, 0x80, 42, ZEMIRAKO_DONE, 42, 0, 0},
+        {"seek table last", 42, 0x83, 82, ZEMIRAKO_DONE, 82, 46, 2},
+        {"another block for the seek table", 42, 0x01, FIRST, ZEMIRAKO_DONE, FIRST, 0, 0},
+        {"another mark", 0, 'F', 1, ZEMIRAKO_REFUSED, 0, 0, 0},
+        {"another type of block", 4, 0x01, 5, ZEMIRAKO_REFUSED, 0, 0, 0},
+        {"another length", 7, 0x23, 8, ZEMIRAKO_REFUSED, 0, 0, 0},
+        {"depth of 1", 21, 0x00, 22, ZEMIRAKO_REFUSED, 0, 0, 0},
+    };
+    for (size_t i = 0; i < sizeof rows / sizeof *rows; i++)
+        for (size_t count = 0; count <= sizeof file; count++) {
+            uint8_t *bytes = malloc(count + 1);
+            memcpy(bytes, file, count);
+            if ((size_t)rows[i].at < count)
+                bytes[rows[i].at] = (uint8_t)rows[i].byte;
+            zemirako_flac_description d = example_description(), old = d, read;
+            zemirako_flac_places places = {7, 8, 9};
+            uint32_t status = zemirako_flac_read_head(bytes, count, &d, &places);
+            uint32_t wanted = count < rows[i].more ? ZEMIRAKO_NEED_MORE : rows[i].status;
+            expect(status == wanted, "status of a head", rows[i].row);
+            if (status == ZEMIRAKO_DONE) {
+                expect(zemirako_flac_read_description(bytes, count, &read) == ZEMIRAKO_DONE, "described", rows[i].row);
+                expect(!memcmp(&d, &read, sizeof d), "the head's description", rows[i].row);
+                expect(places.first_frame == rows[i].frame, "the first frame", rows[i].row);
+                expect(places.seek_table == rows[i].seek && places.seek_points == rows[i].points, "seek table", rows[i].row);
+            } else {
+                expect(!memcmp(&d, &old, sizeof d), "description stays", rows[i].row);
+                expect(places.first_frame == 7 && places.seek_table == 8 && places.seek_points == 9, "places stay", rows[i].row);
+            }
+            free(bytes);
+        }
+}
+
+static void try_next_frames(void)
+{
+    static const struct {
+        const char *row;
+        size_t count, from;
+        int at, byte; /* the byte that is changed, and its value */
+        uint32_t depth;
+        uint32_t status;
+        size_t place;
+    } rows[] = {
+        {"from the first byte", 214, 0, 0, 'f', 16, ZEMIRAKO_DONE, 137},
+        {"at a frame", 214, 137, 0, 'f', 16, ZEMIRAKO_DONE, 137},
+        {"behind a frame's first byte", 214, 138, 0, 'f', 16, ZEMIRAKO_DONE, 165},
+        {"the last frame", 214, 166, 0, 'f', 16, ZEMIRAKO_DONE, 194},
+        {"no frame", 214, 195, 0, 'f', 16, ZEMIRAKO_NEED_MORE, 213},
+        {"from the end", 214, 214, 0, 'f', 16, ZEMIRAKO_NEED_MORE, 214},
+        {"from behind the end", 214, 300, 0, 'f', 16, ZEMIRAKO_NEED_MORE, 300},
+        {"a header that is cut", 171, 138, 0, 'f', 16, ZEMIRAKO_NEED_MORE, 165},
+        {"a header that is just whole", 172, 138, 0, 'f', 16, ZEMIRAKO_DONE, 165},
+        {"another sum of a header", 214, 138, 171, 0xda, 16, ZEMIRAKO_DONE, 194},
+        {"another depth", 214, 0, 0, 'f', 24, ZEMIRAKO_NEED_MORE, 213},
+        {"depth of 0", 214, 0, 0, 'f', 0, ZEMIRAKO_INVALID, 99},
+        {"depth of 33", 214, 0, 0, 'f', 33, ZEMIRAKO_INVALID, 99},
+    };
+    for (size_t i = 0; i < sizeof rows / sizeof *rows; i++) {
+        uint8_t *bytes = malloc(rows[i].count);
+        memcpy(bytes, file, rows[i].count);
+        bytes[rows[i].at] = (uint8_t)rows[i].byte;
+        zemirako_flac_description d;
+        zemirako_flac_places places;
+        expect(zemirako_flac_read_head(file, sizeof file, &d, &places) == ZEMIRAKO_DONE, "head", "file");
+        d.depth = rows[i].depth;
+        size_t place = 99;
+        uint32_t status = zemirako_flac_next_frame(bytes, rows[i].count, rows[i].from, &d, &place);
+        expect(status == rows[i].status, "status of the next frame's place", rows[i].row);
+        expect(place == rows[i].place, "the next frame's place", rows[i].row);
         free(bytes);
     }
 }
@@ -291,6 +400,10 @@ static void try_small_rooms(void)
         uint32_t status = zemirako_flac_decode_frame(example + HEAD, FRAME, &d, samples, room, &block);
         expect(status == ZEMIRAKO_TOO_SMALL && block == 1, "status of a small room", "frame");
         expect(samples[0] == 5 && samples[1] == 6, "samples stay", "small room");
+        size_t size = 99;
+        status = zemirako_flac_decode_next(example + HEAD, FRAME, &d, samples, room, &block, &size);
+        expect(status == ZEMIRAKO_TOO_SMALL && block == 1 && size == FRAME, "status of a small room", "next");
+        expect(samples[0] == 5 && samples[1] == 6, "samples stay", "next in a small room");
     }
 }
 
@@ -308,6 +421,33 @@ static int32_t sample_of(unsigned depth, unsigned i)
         return (int32_t)(-most - 1 + i % 16);
     default:
         return (int32_t)((int64_t)(i * 7 % 64) * most / 70);
+    }
+}
+
+/* Of a frame's first bytes more are wanted, whichever they are; the whole frame is decoded, whatever stands behind it. */
+static void try_next(const uint8_t *frame, size_t size, const zemirako_flac_description *d, const int32_t *samples,
+                     size_t count, const char *row)
+{
+    int32_t again[8 * BLOCK];
+    for (size_t bytes = 0; bytes < size; bytes++) {
+        uint8_t *exact = malloc(bytes + 1);
+        memcpy(exact, frame, bytes);
+        uint32_t block = 99;
+        size_t taken_bytes = 99;
+        uint32_t status = zemirako_flac_decode_next(exact, bytes, d, again, count, &block, &taken_bytes);
+        expect(status == ZEMIRAKO_NEED_MORE && block == 99 && taken_bytes == 99, "more bytes are wanted", row);
+        free(exact);
+    }
+    for (size_t behind = 0; behind < 3; behind++) {
+        uint8_t *exact = malloc(size + behind);
+        memcpy(exact, frame, size);
+        memset(exact + size, 0x55, behind);
+        uint32_t block = 0;
+        size_t taken_bytes = 0;
+        uint32_t status = zemirako_flac_decode_next(exact, size + behind, d, again, count, &block, &taken_bytes);
+        expect(status == ZEMIRAKO_DONE && block == BLOCK && taken_bytes == size, "the next frame", row);
+        expect(!memcmp(again, samples, sizeof *again * count), "the next samples", row);
+        free(exact);
     }
 }
 
@@ -343,6 +483,7 @@ static void try_block(zemirako_flac_format f, uint32_t number)
     for (size_t i = 0; i < count; i++)
         same &= again[i] == samples[i % f.channels * BLOCK + i / f.channels];
     expect(same, "samples come back", row);
+    try_next(exact, size, &d, again, count, row);
     free(exact);
 }
 
@@ -481,6 +622,11 @@ static void try_broken(void)
         }
         expect(is_frame || status == ZEMIRAKO_REFUSED, "status", "broken frame");
         expect(is_frame == (found == ZEMIRAKO_DONE && end == size), "end and frame agree", "broken frame");
+        uint32_t next_block = 0;
+        size_t next_size = 0;
+        uint32_t next = zemirako_flac_decode_next(exact, size, &d, all, sizeof all / sizeof *all, &next_block, &next_size);
+        expect((next == ZEMIRAKO_DONE || next == ZEMIRAKO_TOO_SMALL) == (found == ZEMIRAKO_DONE), "next", "broken frame");
+        expect(found != ZEMIRAKO_DONE || next_size == end, "bytes of the next", "broken frame");
         int64_t limit = (int64_t)1 << (f.depth - 1);
         for (size_t i = 0; status == ZEMIRAKO_DONE && i < (size_t)block * f.channels; i++)
             expect(out[i] >= -limit && out[i] < limit, "depth", "broken frame");
@@ -596,7 +742,8 @@ static void try_no_memory(void)
     int32_t samples[2 * BLOCK] = {0};
     for (unsigned i = 0; i < 2 * BLOCK; i++)
         samples[i] = sample_of(16, i);
-    for (int call = 0; call < 3; call++) {
+    static const char *const calls[] = {"end", "frame", "next", "block"};
+    for (int call = 0; call < 4; call++) {
         uint32_t status = ZEMIRAKO_NO_MEMORY;
         long n = 0;
         for (; status != ZEMIRAKO_DONE && n < 100000; n++) {
@@ -611,17 +758,19 @@ static void try_no_memory(void)
                 status = zemirako_flac_frame_end(example + HEAD, FRAME, &d, &end);
             else if (call == 1)
                 status = zemirako_flac_decode_frame(example + HEAD, FRAME, &d, out, 2, &block);
+            else if (call == 2)
+                status = zemirako_flac_decode_next(example + HEAD, FRAME, &d, out, 2, &block, &size);
             else
                 status = zemirako_flac_encode_block(&f, BLOCK, 1, samples, 2 * BLOCK, bytes, sizeof bytes, &size);
             left_before_none = -1;
-            expect(taken == before, "memory is given back", call == 0 ? "end" : call == 1 ? "frame" : "block");
+            expect(taken == before, "memory is given back", calls[call]);
             if (status == ZEMIRAKO_DONE)
                 break;
-            expect(status == ZEMIRAKO_NO_MEMORY, "want of memory", call == 0 ? "end" : call == 1 ? "frame" : "block");
+            expect(status == ZEMIRAKO_NO_MEMORY, "want of memory", calls[call]);
             expect(end == 99 && block == 99 && size == 99 && out[0] == 5 && bytes[0] == 7, "all stays", "no memory");
         }
         expect(n > 0 && status == ZEMIRAKO_DONE, "done with enough memory", "no memory");
-        printf("call %d: %ld allocations failed in turn\n", call, n);
+        printf("%s: %ld allocations failed in turn\n", calls[call], n);
     }
 }
 
@@ -636,6 +785,8 @@ int main(int count, char **words)
     try_descriptions();
     try_written_descriptions();
     try_frames();
+    try_heads();
+    try_next_frames();
     try_small_rooms();
     try_blocks();
     try_invalid();

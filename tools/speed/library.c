@@ -83,6 +83,16 @@ static __attribute__((noinline)) void find_and_decode_ours(void)
             stop("a frame was not found");
 }
 
+/* The same in one pass. */
+static __attribute__((noinline)) void decode_next_ours(void)
+{
+    uint32_t block;
+    size_t size;
+    for (size_t at = ZEMIRAKO_FLAC_DESCRIPTION_SIZE; at < frames_size; at += size)
+        if (zemirako_flac_decode_next(frames + at, frames_size - at, &description, room, BLOCK * CHANNELS, &block, &size))
+            stop("a next frame was not decoded");
+}
+
 /* ---- libFLAC */
 
 static FLAC__StreamEncoderWriteStatus take_bytes(const FLAC__StreamEncoder *e, const FLAC__byte in[], size_t size,
@@ -181,6 +191,7 @@ static const struct {
     {"encode_theirs_guessed", encode_theirs_guessed},
     {"decode_ours", decode_ours},
     {"find_and_decode_ours", find_and_decode_ours},
+    {"decode_next_ours", decode_next_ours},
     {"decode_theirs", decode_theirs},
 };
 #define WORKS (sizeof works / sizeof *works)

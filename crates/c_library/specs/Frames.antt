@@ -1,12 +1,14 @@
 -- Frames of FLAC as C sees them.
-use Rattle.std.specs.Prelude.{ℕ, ℤ, ◌≡◌, ◌⊎◌, ◌*◌, ◌/◌, ◌==◌, ◌||◌, List, map, length, Some, IsTrue}
+use Rattle.std.specs.Prelude.{ℕ, ℤ, ◌≡◌, ◌⊎◌, ◌*◌, ◌/◌, ◌==◌, ◌||◌, Bool, List, map, take, length, Some, None, IsTrue}
 use Rattle.std.specs.List.{range_with_len}
 use Rattle.wc_config.specs.declared.stream_info.StreamInfo.{StreamInfo}
 use Rattle.codec_definitions.specs.Flac.{sample_size, bytes_of_frame}
 use Rattle.codec_definitions.specs.Pcm.{sample_at, converted}
 use Rattle.flac_definitions.specs.Frame.{frame_of}
 use Rattle.flac_definitions.specs.declared.header.FrameHeader.{FrameHeader}
-use Rattle.c_library.specs.Status.{done, refused, no_memory, too_small, invalid, fill_status, filled}
+use Rattle.flac_decode.specs.FrameEnd.{EndsAt}
+use Rattle.flac_decode.specs.Shortness.{is_short}
+use Rattle.c_library.specs.Status.{done, refused, no_memory, too_small, invalid, need_more, fill_status, filled}
 
 -- sample `i` of a frame's bytes, without the zeros below its depth
 abbrev pub sample_in : ℕ → List ℕ → ℕ → ℤ
@@ -29,6 +31,15 @@ IsDecoded info bytes block status old new =
     × ((status ≡ fill_status (samples_in info.depth (bytes_of_frame f.0 f.1)) old)
     × (new ≡ filled (samples_in info.depth (bytes_of_frame f.0 f.1)) old))))
 
+-- the frame in front of bytes: how many bytes it has, and its samples as above
+abbrev pub IsDecodedFront : StreamInfo → List ℕ → ℕ → ℕ → ℕ → List ℤ → List ℤ → Type 0
+IsDecodedFront info bytes size block status old new =
+    EndsAt info bytes (Some size) × IsDecoded info (take size bytes) block status old new
+
+-- no frame is in front of bytes; and reading them ends for want of bits, or before
+abbrev pub IsNoFront : StreamInfo → List ℕ → Bool → Type 0
+IsNoFront info bytes short = EndsAt info bytes None × (is_short info bytes ≡ short)
+
 -- what a call answers that looks for a frame's end
 abbrev pub IsEndStatus : ℕ → Type 0
 IsEndStatus s = IsTrue ((s == done) || (s == refused) || (s == no_memory) || (s == invalid))
@@ -36,3 +47,8 @@ IsEndStatus s = IsTrue ((s == done) || (s == refused) || (s == no_memory) || (s 
 -- what a call answers that decodes a frame, or writes one
 abbrev pub IsFrameStatus : ℕ → Type 0
 IsFrameStatus s = IsTrue ((s == done) || (s == refused) || (s == no_memory) || (s == too_small) || (s == invalid))
+
+-- what a call answers that decodes the frame in front of bytes
+abbrev pub IsFrontStatus : ℕ → Type 0
+IsFrontStatus s =
+    IsTrue ((s == done) || (s == refused) || (s == no_memory) || (s == too_small) || (s == invalid) || (s == need_more))

@@ -3,3 +3,4 @@ pub mod Copies
 pub mod Descriptions
 pub mod Frames
 pub mod Status
+pub mod Streams

@@ -21,6 +21,10 @@ too_small = 3
 abbrev pub invalid : ℕ
 invalid = 4
 
+-- what was handed in ends before it is whole
+abbrev pub need_more : ℕ
+need_more = 8
+
 -- what a call answers that puts values into some room
 abbrev pub fill_status : {A : Type 0} → List A → List A → ℕ
 fill_status values room = if nat_le (length values) (length room) then done else too_small

@@ -80,7 +80,7 @@ fn can_be_described(info: &StreamInfo) -> bool
     info.rate >= 1 && info.depth >= 4 && can_be_written(info)
 }
 
-fn description_of(info: &StreamInfo) -> FlacDescription
+pub fn description_of(info: &StreamInfo) -> FlacDescription
     ensures { stream_of result ≡ info.now }
 {
     FlacDescription {

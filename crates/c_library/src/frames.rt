@@ -5,12 +5,12 @@ ghost use Rattle.codec_definitions.specs.Pcm.{sample_of, converted};
 ghost use Rattle.flac_definitions.specs.Frame.{frame_of};
 ghost use Rattle.flac_decode.specs.FrameEnd.{EndsAt};
 ghost use Rattle.c_library.specs.Descriptions.{stream_of, has_depth};
-ghost use Rattle.c_library.specs.Frames.{sample_in, samples_in, HasValues, IsDecoded, IsEndStatus, IsFrameStatus};
-ghost use Rattle.c_library.specs.Status.{done, refused, no_memory, too_small, invalid, fill_status, filled};
+ghost use Rattle.c_library.specs.Frames.{sample_in, samples_in, HasValues, IsDecoded, IsDecodedFront, IsNoFront, IsEndStatus, IsFrameStatus, IsFrontStatus};
+ghost use Rattle.c_library.specs.Status.{done, refused, no_memory, too_small, invalid, need_more, fill_status, filled};
 
 use crate::description::{FlacDescription, has_depth, stream_of};
-use crate::status::{DONE, INVALID, NO_MEMORY, REFUSED, TOO_SMALL};
-use flac_decode::{FrameFault, decode_frame, frame_end};
+use crate::status::{DONE, INVALID, NEED_MORE, NO_MEMORY, REFUSED, TOO_SMALL};
+use flac_decode::{FrameFault, ReadFault, decode_frame, decode_front, frame_end};
 use std::alloc::Global;
 use wc_base::NoMemory;
 use wc_config::StreamInfo;
@@ -81,6 +81,51 @@ pub extern "C" fn zemirako_flac_decode_frame(
         }
         Err(FrameFault::Refused) => REFUSED,
         Err(FrameFault::NoMemory) => NO_MEMORY,
+    }
+}
+
+/// Decodes the frame with which `bytes` begin, in one pass: `size` says how many bytes it has, and its samples and `block`
+/// are as of `zemirako_flac_decode_frame`. `decoded`, `refused` and `more` are the clause `decoded` of
+/// `flac_decode::decode_front`, `fits` and `small` its clause `size`.
+#[unsafe(no_mangle)]
+pub extern "C" fn zemirako_flac_decode_next(
+    alloc: Global,
+    bytes: &[u8],
+    description: &FlacDescription,
+    samples: &mut [i32],
+    block: &mut u32,
+    size: &mut usize,
+) -> u32
+    ensures decoded { HasValues result → IsDecodedFront (stream_of description.now) bytes.now
+        size.new block.new result samples.old samples.new }
+    ensures fits { result ≡ done → block.new * description.now.channels ≤ length samples.old }
+    ensures small { result ≡ too_small → length samples.old < block.new * description.now.channels }
+    ensures refused { result ≡ refused → IsNoFront (stream_of description.now) bytes.now false }
+    ensures more { result ≡ need_more → IsNoFront (stream_of description.now) bytes.now true }
+    ensures kept { (HasValues result → ⊥) → samples.new ≡ samples.old }
+    ensures kept_block { (HasValues result → ⊥) → block.new ≡ block.old }
+    ensures kept_size { (HasValues result → ⊥) → size.new ≡ size.old }
+    ensures valid { has_depth description.now ≡ true → result ≡ invalid → ⊥ }
+    ensures invalid { has_depth description.now ≡ false → result ≡ invalid }
+    ensures status { IsFrontStatus result }
+{
+    if !has_depth(description) {
+        return INVALID;
+    }
+    let info = stream_of(description);
+    let mut residual = Vec::new(alloc);
+    let mut wide = Vec::new(alloc);
+    let mut spelled = Vec::new(alloc);
+    match decode_front(bytes, &info, &mut residual, &mut wide, &mut spelled) {
+        Ok(front) => {
+            *block = front.block;
+            *size = front.size;
+            whole_samples(&info, front.block, spelled.as_slice());
+            put_samples(info.depth, spelled.as_slice(), samples)
+        }
+        Err(ReadFault::Refused) => REFUSED,
+        Err(ReadFault::Short) => NEED_MORE,
+        Err(ReadFault::NoMemory) => NO_MEMORY,
     }
 }
 

@@ -12,6 +12,8 @@ pub const NO_MEMORY: u32 = 2;
 pub const TOO_SMALL: u32 = 3;
 /// An argument is out of its range.
 pub const INVALID: u32 = 4;
+/// What was handed in ends before it is whole. 5 to 7 are of the engine.
+pub const NEED_MORE: u32 = 8;
 
 /// Puts bytes at the front of some room, if they fit.
 pub fn put_bytes(bytes: &[u8], room: &mut [u8]) -> u32
