@@ -18,13 +18,13 @@ struct worker {
     pthread_mutex_t lock;
     pthread_cond_t changed;
     enum { RESTS, WORKS, STOPS } state;
-    zemirako_decoder_work *item;
+    zemirako_work_item *item;
 };
 
 struct player {
     struct source from;
     struct worker worker;
-    zemirako_audio_decoder *decoder;
+    zemirako_codec *decoder;
     struct sink to;
     uint8_t *room; /* for outputs, never null */
     size_t room_size;
@@ -54,11 +54,11 @@ static const char *write_output(struct player *p, uint64_t number) {
 static const char *run_turns(struct player *p) {
     const char *why = NULL;
     zemirako_turn turn;
-    while (!why && (turn = zemirako_audio_decoder_turn(p->decoder)).status == ZEMIRAKO_DONE) {
+    while (!why && (turn = zemirako_codec_turn(p->decoder)).status == ZEMIRAKO_DONE) {
         p->any = 1;
         for (uint64_t i = 0; !why && i < turn.outputs; i++) why = write_output(p, i);
         for (uint64_t i = 0; !why && i < turn.settled; i++) {
-            zemirako_settled end = zemirako_audio_decoder_settled(p->decoder, i);
+            zemirako_settled end = zemirako_codec_settled(p->decoder, i);
             why = wrong(end.status, 0);
             if (!why && p->is_flushing && end.promise == p->promise && !end.error) p->is_over = 1;
         }
@@ -84,7 +84,7 @@ static const char *decode_next(struct player *p) {
 /* Hands chunks to the decoder until enough wait; behind the last one, a flush. */
 static const char *feed(struct player *p) {
     while (!p->is_flushing) {
-        zemirako_look look = zemirako_audio_decoder_look(p->decoder);
+        zemirako_look look = zemirako_codec_look(p->decoder);
         if (look.status != ZEMIRAKO_DONE) return wrong(look.status, 0);
         if (look.queue_size >= QUEUED) return NULL;
         p->any = 1;
@@ -93,7 +93,7 @@ static const char *feed(struct player *p) {
             if (why) return why;
             continue;
         }
-        zemirako_reply reply = zemirako_audio_decoder_flush(p->decoder);
+        zemirako_reply reply = zemirako_codec_flush(p->decoder);
         if (reply.status != ZEMIRAKO_DONE) return wrong(reply.status, reply.error);
         p->promise = reply.place;
         p->is_flushing = 1;
@@ -121,7 +121,7 @@ static void *work(void *of) {
         while (w->state == RESTS) pthread_cond_wait(&w->changed, &w->lock);
         if (w->state == STOPS) break;
         pthread_mutex_unlock(&w->lock);
-        zemirako_decoder_work_perform(w->item);
+        zemirako_work_item_perform(w->item);
         pthread_mutex_lock(&w->lock);
         w->state = RESTS;
         pthread_cond_signal(&w->changed);
@@ -138,7 +138,7 @@ static const char *play(struct player *p) {
     if (reply.status != ZEMIRAKO_DONE) return wrong(reply.status, reply.error);
     while (!p->is_over) {
         p->any = 0;
-        zemirako_audio_decoder_start(p->decoder, p->worker.item);
+        zemirako_codec_start(p->decoder, p->worker.item);
         set_worker(&p->worker, WORKS);
         const char *why = feed(p); /* while the item is away */
         if (!why) why = run_turns(p);
@@ -146,7 +146,7 @@ static const char *play(struct player *p) {
         struct timespec now;
         timespec_get(&now, TIME_UTC);
         uint64_t moment = (uint64_t)now.tv_sec * 1000000 + (uint64_t)now.tv_nsec / 1000;
-        uint32_t status = zemirako_audio_decoder_done(p->decoder, p->worker.item, moment);
+        uint32_t status = zemirako_codec_done(p->decoder, p->worker.item, moment);
         if (why) return why;
         if (status != ZEMIRAKO_IDLE) why = wrong(status, 0);
         if (!why) why = run_turns(p);
@@ -158,7 +158,7 @@ static const char *play(struct player *p) {
 
 static const char *play_by_threads(struct player *p) {
     struct worker *w = &p->worker;
-    w->item = (zemirako_decoder_work *)malloc(zemirako_decoder_work_size());
+    w->item = (zemirako_work_item *)malloc(zemirako_work_item_size());
     if (!w->item) return "out of memory for a work item";
     const char *why = "no thread";
     if (!pthread_mutex_init(&w->lock, NULL)) {
@@ -179,13 +179,13 @@ static const char *play_by_threads(struct player *p) {
 static const char *play_file(struct player *p, const char *in, const char *out) {
     const char *why = read_source(&p->from, in);
     if (why) return why;
-    p->decoder = (zemirako_audio_decoder *)malloc(zemirako_audio_decoder_size());
+    p->decoder = (zemirako_codec *)malloc(zemirako_codec_size());
     p->room = (uint8_t *)malloc(p->room_size = 4096);
     if (!p->decoder || !p->room) return "out of memory for a decoder";
     if (!(p->to.to = fopen(out, "wb"))) return "cannot open the file to write";
     uint32_t status = zemirako_audio_decoder_open(p->decoder, 4);
     why = status ? wrong(status, 0) : play_by_threads(p);
-    if (zemirako_audio_decoder_end(p->decoder) != ZEMIRAKO_DONE && !why) why = "not ended";
+    if (zemirako_codec_end(p->decoder) != ZEMIRAKO_DONE && !why) why = "not ended";
     return why;
 }
 

@@ -28,8 +28,8 @@
 
 enum { MOST = 4096 };
 struct seat {
-    zemirako_audio_decoder *at;
-    zemirako_decoder_work *room;
+    zemirako_codec *at;
+    zemirako_work_item *room;
     int ended, full;              /* an item, maybe empty, lies in the room */
     int has, out;                 /* the room has an item; an item of the decoder is out or lost */
     uint64_t epoch, next;         /* of the next item */
@@ -38,10 +38,10 @@ struct seat {
 
 static struct seat seats[2];
 static long line;
-static zemirako_audio_decoder *unopened;
+static zemirako_codec *unopened;
 static uint8_t nothing[1];
 
-static uint64_t entries(struct seat *s) { return zemirako_audio_decoder_look(s->at).entries; }
+static uint64_t entries(struct seat *s) { return zemirako_codec_look(s->at).entries; }
 
 static size_t from_hex(const char *text, uint8_t *bytes) {
     size_t count = 0;
@@ -53,12 +53,12 @@ static size_t from_hex(const char *text, uint8_t *bytes) {
 
 static void settle(int d, uint64_t count) {
     for (uint64_t i = 0; i < count; i++) {
-        zemirako_settled end = zemirako_audio_decoder_settled(seats[d].at, i);
+        zemirako_settled end = zemirako_codec_settled(seats[d].at, i);
         WANT(end.status == ZEMIRAKO_DONE);
         printf("%d   %s %" PRIu64 "%s%s\n", d, end.error ? "reject" : "resolve", end.promise,
                end.error ? " " : "", end.error ? zemirako_error_text(end.error) : "");
     }
-    WANT(zemirako_audio_decoder_settled(seats[d].at, count).status == ZEMIRAKO_REFUSED);
+    WANT(zemirako_codec_settled(seats[d].at, count).status == ZEMIRAKO_REFUSED);
 }
 
 static uint32_t called(int d, const char *name, zemirako_reply r) {
@@ -76,7 +76,7 @@ static uint32_t called(int d, const char *name, zemirako_reply r) {
 static void show(int d, uint64_t count) {
     static const char *const formats[] = {"u8", "s16", "s32"};
     static uint8_t bytes[4 * MOST];
-    zemirako_audio_decoder *at = seats[d].at;
+    zemirako_codec *at = seats[d].at;
     for (uint64_t i = 0; i < count; i++) {
         zemirako_output o = zemirako_audio_decoder_output(at, i, nothing, 0), again;
         WANT(o.status == ZEMIRAKO_TOO_SMALL && o.size <= sizeof bytes);
@@ -94,7 +94,7 @@ static uint32_t turned(int d) {
     static const char *const words[] = {"", "unblock", "process", "desaturate",
                                         "output", "flushed", "dequeue", "close"};
     struct seat *s = &seats[d];
-    zemirako_turn t = zemirako_audio_decoder_turn(s->at);
+    zemirako_turn t = zemirako_codec_turn(s->at);
     WANT(s->ended ? t.status == ZEMIRAKO_NOT_OPEN : !t.status || t.status == ZEMIRAKO_IDLE);
     if (t.status != ZEMIRAKO_DONE) return t.status;
     int closes = t.word == ZEMIRAKO_TURN_CLOSE;
@@ -120,7 +120,7 @@ static void done(int d, uint64_t place, uint64_t epoch, uint64_t number, uint64_
 static uint32_t worked(int d, uint64_t moment) {
     struct seat *s = &seats[d];
     uint64_t before = s->ended ? 0 : entries(s);
-    uint32_t status = zemirako_audio_decoder_work(s->at, moment);
+    uint32_t status = zemirako_codec_work(s->at, moment);
     WANT(s->ended ? status == ZEMIRAKO_NOT_OPEN : !status || status == ZEMIRAKO_IDLE);
     if (s->out) WANT(status != ZEMIRAKO_DONE);
     if (status == ZEMIRAKO_DONE) {
@@ -135,7 +135,7 @@ static uint32_t started(int d) {
     struct seat *s = &seats[d];
     WANT(!s->full);
     uint64_t before = s->ended ? 0 : entries(s);
-    zemirako_audio_decoder_start(s->at, s->room);
+    zemirako_codec_start(s->at, s->room);
     s->full = 1;
     s->has = !s->ended && entries(s) > before;
     if (!s->has) return s->ended ? ZEMIRAKO_NOT_OPEN : ZEMIRAKO_IDLE;
@@ -153,12 +153,12 @@ static int returned(int d, int e, uint64_t moment) {
     WANT(r->full);
     if (d != e && r->has && s->out && r->room_epoch == s->out_epoch &&
         r->room_number == s->out_number) {
-        zemirako_decoder_work_end(r->room);
+        zemirako_work_item_end(r->room);
         r->full = r->has = 0;
         return -1;
     }
     uint64_t before = s->ended ? 0 : entries(s);
-    uint32_t status = zemirako_audio_decoder_done(s->at, r->room, moment);
+    uint32_t status = zemirako_codec_done(s->at, r->room, moment);
     if (s->ended) WANT(status == ZEMIRAKO_NOT_OPEN);
     else WANT(status == (!r->has ? ZEMIRAKO_IDLE : d == e ? ZEMIRAKO_DONE : ZEMIRAKO_REFUSED));
     if (!s->ended) WANT(entries(s) == before + (status == ZEMIRAKO_DONE));
@@ -171,30 +171,30 @@ static int returned(int d, int e, uint64_t moment) {
 }
 
 /* Each call where no decoder lies, or one with no codec. */
-static uint32_t call(zemirako_audio_decoder *at, uint32_t number) {
+static uint32_t call(zemirako_codec *at, uint32_t number) {
     static const zemirako_audio_config config = {8000, 1, 0};
     static const uint8_t codec[] = {'a', 'l', 'a', 'w'};
     static const zemirako_chunk_head head = {1, 0, 0, 0};
     switch (number) {
     case 0: return zemirako_audio_decoder_configure(at, &config, codec, 4, nothing, 0).status;
     case 1: return zemirako_audio_decoder_decode(at, &head, nothing, 1).status;
-    case 2: return zemirako_audio_decoder_flush(at).status;
-    case 3: return zemirako_audio_decoder_reset(at).status;
-    case 4: return zemirako_audio_decoder_close(at).status;
-    case 5: return zemirako_audio_decoder_work(at, 1);
-    case 6: return zemirako_audio_decoder_turn(at).status;
+    case 2: return zemirako_codec_flush(at).status;
+    case 3: return zemirako_codec_reset(at).status;
+    case 4: return zemirako_codec_close(at).status;
+    case 5: return zemirako_codec_work(at, 1);
+    case 6: return zemirako_codec_turn(at).status;
     case 7: return zemirako_audio_decoder_output(at, 0, nothing, 1).status;
-    case 8: return zemirako_audio_decoder_settled(at, 0).status;
-    default: return zemirako_audio_decoder_look(at).status;
+    case 8: return zemirako_codec_settled(at, 0).status;
+    default: return zemirako_codec_look(at).status;
     }
 }
 
 static uint32_t opened_wrongly(uint32_t saturation) {
-    zemirako_audio_decoder *at = (zemirako_audio_decoder *)malloc(zemirako_audio_decoder_size());
+    zemirako_codec *at = (zemirako_codec *)malloc(zemirako_codec_size());
     WANT(at && zemirako_audio_decoder_open(at, saturation) == ZEMIRAKO_INVALID);
     for (uint32_t i = 0; i < 10; i++) /* it shows no output and no end of a promise */
         WANT(call(at, i) == (i == 7 || i == 8 ? ZEMIRAKO_REFUSED : ZEMIRAKO_INVALID));
-    WANT(zemirako_audio_decoder_end(at) == ZEMIRAKO_DONE);
+    WANT(zemirako_codec_end(at) == ZEMIRAKO_DONE);
     for (uint32_t i = 0; i < 10; i++) WANT(call(at, i) == ZEMIRAKO_NOT_OPEN);
     free(at);
     return ZEMIRAKO_INVALID;
@@ -202,7 +202,7 @@ static uint32_t opened_wrongly(uint32_t saturation) {
 
 static uint32_t end(int d) {
     struct seat *s = &seats[d];
-    uint32_t status = zemirako_audio_decoder_end(s->at);
+    uint32_t status = zemirako_codec_end(s->at);
     WANT(status == (s->ended ? ZEMIRAKO_NOT_OPEN : ZEMIRAKO_DONE));
     s->ended = 1;
     return status;
@@ -212,8 +212,8 @@ static void open_both(const unsigned *saturations) {
     for (int d = 0; d < 2; d++) {
         struct seat *s = &seats[d];
         memset(s, 0, sizeof *s);
-        s->at = (zemirako_audio_decoder *)malloc(zemirako_audio_decoder_size());
-        s->room = (zemirako_decoder_work *)malloc(zemirako_decoder_work_size());
+        s->at = (zemirako_codec *)malloc(zemirako_codec_size());
+        s->room = (zemirako_work_item *)malloc(zemirako_work_item_size());
         WANT(s->at && s->room);
         WANT(zemirako_audio_decoder_open(s->at, saturations[d]) == ZEMIRAKO_DONE);
     }
@@ -222,7 +222,7 @@ static void open_both(const unsigned *saturations) {
 static void end_both(void) {
     for (int d = 0; d < 2; d++) {
         end(d);
-        if (seats[d].full) zemirako_decoder_work_end(seats[d].room);
+        if (seats[d].full) zemirako_work_item_end(seats[d].room);
         free(seats[d].room);
         free(seats[d].at);
     }
@@ -230,7 +230,7 @@ static void end_both(void) {
 
 static uint32_t looked(int d) {
     static const char *const phases[] = {"unconfigured", "configured", "closed"};
-    zemirako_look look = zemirako_audio_decoder_look(seats[d].at);
+    zemirako_look look = zemirako_codec_look(seats[d].at);
     WANT(look.status == (seats[d].ended ? ZEMIRAKO_NOT_OPEN : ZEMIRAKO_DONE));
     if (!seats[d].ended)
         printf("%d %" PRIu64 " %s %" PRIu64 "\n", d, look.entries, phases[look.phase],
@@ -242,7 +242,7 @@ static uint32_t looked(int d) {
 static uint32_t coded(int d, char word, const char *words) {
     static uint8_t bytes[MOST];
     static char text[2 * MOST + 1], codec[64];
-    zemirako_audio_decoder *at = seats[d].at;
+    zemirako_codec *at = seats[d].at;
     if (word == 'c') {
         zemirako_audio_config config = {0, 0, 0};
         WANT(sscanf(words, "%u %u %63s %8192s", &config.rate, &config.channels, codec, text) == 4);
@@ -273,14 +273,14 @@ static int make(char word, const char *words) {
     struct seat *s = &seats[d];
     switch (word) {
     case 'c': case 'e': return (int)coded((int)d, word, words + used);
-    case 'f': return (int)called((int)d, "flush", zemirako_audio_decoder_flush(s->at));
-    case 'r': return (int)called((int)d, "reset", zemirako_audio_decoder_reset(s->at));
-    case 'x': return (int)called((int)d, "close", zemirako_audio_decoder_close(s->at));
+    case 'f': return (int)called((int)d, "flush", zemirako_codec_flush(s->at));
+    case 'r': return (int)called((int)d, "reset", zemirako_codec_reset(s->at));
+    case 'x': return (int)called((int)d, "close", zemirako_codec_close(s->at));
     case 'w': return (int)worked((int)d, moment);
     case 't': return (int)turned((int)d);
     case 'l': return (int)looked((int)d);
     case 's': return (int)started((int)d);
-    case 'p': WANT(s->full); zemirako_decoder_work_perform(s->room); return 0;
+    case 'p': WANT(s->full); zemirako_work_item_perform(s->room); return 0;
     case 'd': return returned((int)d, (int)d, moment);
     case 'm': WANT(sscanf(words + used, "%u %" SCNu64, &e, &moment) == 2 && e < 2);
               return returned((int)d, (int)e, moment);
@@ -292,9 +292,9 @@ static int make(char word, const char *words) {
 
 int main(void) {
     static char words[4 * MOST];
-    unopened = (zemirako_audio_decoder *)malloc(zemirako_audio_decoder_size());
+    unopened = (zemirako_codec *)malloc(zemirako_codec_size());
     WANT(unopened);
-    memset(unopened, 0xa5, zemirako_audio_decoder_size());
+    memset(unopened, 0xa5, zemirako_codec_size());
     while (fgets(words, sizeof words, stdin)) {
         line++;
         printf("= %d\n", make(words[0], words + 1));

@@ -28,8 +28,7 @@ int main(void) {
     const zemirako_chunk_head head = {1, 0, 0, 0};
     int16_t samples[2] = {0, 0};
     uint8_t bytes[4] = {0, 0, 0, 0};
-    zemirako_audio_decoder *at =
-        (zemirako_audio_decoder *)malloc(zemirako_audio_decoder_size());
+    zemirako_codec *at = (zemirako_codec *)malloc(zemirako_codec_size());
     if (!at || zemirako_audio_decoder_open(at, 4) != ZEMIRAKO_DONE ||
         zemirako_alaw_decode(codes, 2, samples, 2) != ZEMIRAKO_DONE ||
         zemirako_audio_decoder_configure(at, &config, codec, 4, codec, 0).status != ZEMIRAKO_DONE ||
@@ -37,14 +36,14 @@ int main(void) {
         return 1;
     for (uint64_t moment = 0; moment < 2; moment++) {
         zemirako_turn turn;
-        if (zemirako_audio_decoder_work(at, moment) != ZEMIRAKO_DONE) return 1;
-        while ((turn = zemirako_audio_decoder_turn(at)).status == ZEMIRAKO_DONE)
+        if (zemirako_codec_work(at, moment) != ZEMIRAKO_DONE) return 1;
+        while ((turn = zemirako_codec_turn(at)).status == ZEMIRAKO_DONE)
             if (turn.outputs && zemirako_audio_decoder_output(at, 0, bytes, 4).size != 4) return 1;
     }
     for (int i = 0; i < 2; i++)
         if ((int16_t)(bytes[2 * i] | bytes[2 * i + 1] << 8) != samples[i]) return 1;
     printf("%s %06x %s %d %d\n", ZEMIRAKO_VERSION, (unsigned)zemirako_engine_version(),
-           zemirako_status_text(zemirako_audio_decoder_end(at)), samples[0], samples[1]);
+           zemirako_status_text(zemirako_codec_end(at)), samples[0], samples[1]);
     free(at);
     return 0;
 }

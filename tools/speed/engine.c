@@ -33,11 +33,11 @@ static uint64_t now(void) {
 
 /* ---- The engine */
 
-static zemirako_audio_decoder *decoder;
+static zemirako_codec *decoder;
 
 static void turns(size_t *size) {
     zemirako_turn t;
-    while ((t = zemirako_audio_decoder_turn(decoder)).status == ZEMIRAKO_DONE)
+    while ((t = zemirako_codec_turn(decoder)).status == ZEMIRAKO_DONE)
         for (uint64_t i = 0; i < t.outputs; i++) {
             zemirako_output o = zemirako_audio_decoder_output(decoder, i, copy, sizeof copy);
             WANT(o.status == ZEMIRAKO_DONE);
@@ -48,11 +48,11 @@ static void turns(size_t *size) {
 
 static void engine_begin(void) {
     size_t none = 0;
-    WANT((decoder = (zemirako_audio_decoder *)malloc(zemirako_audio_decoder_size())));
+    WANT((decoder = (zemirako_codec *)malloc(zemirako_codec_size())));
     WANT(zemirako_audio_decoder_open(decoder, 4) == ZEMIRAKO_DONE);
     WANT(zemirako_audio_decoder_configure_as(decoder, "pcm-s16", RATE, CHANNELS, NULL, 0).status ==
          ZEMIRAKO_DONE);
-    WANT(zemirako_audio_decoder_work(decoder, moment++) == ZEMIRAKO_DONE);
+    WANT(zemirako_codec_work(decoder, moment++) == ZEMIRAKO_DONE);
     turns(&none);
 }
 
@@ -60,13 +60,13 @@ static void engine_decode(uint32_t frames, uint64_t number) {
     zemirako_chunk_head head = {1, 0, (int64_t)number, 0};
     size_t size = 0;
     WANT(zemirako_audio_decoder_decode(decoder, &head, bytes, 4 * frames).status == ZEMIRAKO_DONE);
-    WANT(zemirako_audio_decoder_work(decoder, moment++) == ZEMIRAKO_DONE);
+    WANT(zemirako_codec_work(decoder, moment++) == ZEMIRAKO_DONE);
     turns(&size);
     WANT(size == 4 * frames);
 }
 
 static void engine_end(void) {
-    WANT(zemirako_audio_decoder_end(decoder) == ZEMIRAKO_DONE);
+    WANT(zemirako_codec_end(decoder) == ZEMIRAKO_DONE);
     free(decoder);
 }
 

@@ -26,10 +26,10 @@ static double now(void) {
     return (double)at.tv_sec + (double)at.tv_nsec / 1e9;
 }
 
-static void turns(zemirako_audio_decoder *decoder) {
+static void turns(zemirako_codec *decoder) {
     static uint8_t copy[MOST];
     zemirako_turn t;
-    while ((t = zemirako_audio_decoder_turn(decoder)).status == ZEMIRAKO_DONE)
+    while ((t = zemirako_codec_turn(decoder)).status == ZEMIRAKO_DONE)
         for (uint64_t i = 0; i < t.outputs; i++) {
             zemirako_output o = zemirako_audio_decoder_output(decoder, i, copy, sizeof copy);
             WANT(o.status == ZEMIRAKO_DONE);
@@ -41,8 +41,8 @@ static void turns(zemirako_audio_decoder *decoder) {
     WANT(t.status == ZEMIRAKO_IDLE);
 }
 
-static void work(zemirako_audio_decoder *decoder) {
-    WANT(zemirako_audio_decoder_work(decoder, moment++) == ZEMIRAKO_DONE);
+static void work(zemirako_codec *decoder) {
+    WANT(zemirako_codec_work(decoder, moment++) == ZEMIRAKO_DONE);
     turns(decoder);
 }
 
@@ -52,7 +52,7 @@ int main(int count, char **words) {
     uint64_t state = strtoull(words[1], NULL, 10), chunks = strtoull(words[2], NULL, 10);
     double begin = now();
     for (int i = 0; i < 4; i++) {
-        zemirako_audio_decoder *decoder = malloc(zemirako_audio_decoder_size());
+        zemirako_codec *decoder = malloc(zemirako_codec_size());
         WANT(decoder && zemirako_audio_decoder_open(decoder, 4) == ZEMIRAKO_DONE);
         WANT(zemirako_audio_decoder_configure_as(decoder, codecs[i], 8000, 1, NULL, 0).status == ZEMIRAKO_DONE);
         work(decoder);
@@ -66,7 +66,7 @@ int main(int count, char **words) {
             WANT(zemirako_audio_decoder_decode(decoder, &head, chunk, CHUNK).status == ZEMIRAKO_DONE);
             work(decoder);
         }
-        WANT(zemirako_audio_decoder_end(decoder) == ZEMIRAKO_DONE);
+        WANT(zemirako_codec_end(decoder) == ZEMIRAKO_DONE);
         free(decoder);
     }
     fprintf(stderr, "%.3f\n", now() - begin);

@@ -2,6 +2,8 @@
 ghost use Rattle.std.specs.Prelude.{◌≡◌};
 ghost use Rattle.engine.specs.Codes.{error_code, exception_code, status_of};
 ghost use Rattle.engine.specs.Codes.{format_code, phase_code};
+ghost use Rattle.engine.specs.Sounds.{format_with};
+ghost use Rattle.engine.specs.Told.{flag};
 
 use codec_model::CodecState;
 use wc_base::{DomError, SampleFormat};
@@ -18,18 +20,42 @@ pub const TOO_SMALL: u32 = 3;
 pub const INVALID: u32 = 4;
 /// Nothing is queued.
 pub const IDLE: u32 = 5;
-/// No decoder was opened there, or it was ended.
+/// No such codec was opened there, or it was ended.
 pub const NOT_OPEN: u32 = 6;
-/// The decoder had as many entries as it can have, close to 2^64.
+/// The codec had as many entries as it can have, close to 2^64.
 pub const USED_UP: u32 = 7;
 
-/// The numbers of a config; `has_description` is 0 where it has none.
+/// The numbers of a decoder's config; `has_description` is 0 where it has none.
 #[repr(C)]
 #[derive(Clone, Copy, Debug, PartialEq, Eq)]
 pub struct AudioConfig {
     pub rate: u32,
     pub channels: u32,
     pub has_description: u32,
+}
+
+/// The numbers of an encoder's config: the last three are read for FLAC alone, and are the size of
+/// a block in frames (0 leaves it to the encoder), the level of compression, and bits a sample.
+#[repr(C)]
+#[derive(Clone, Copy, Debug, PartialEq, Eq)]
+pub struct EncoderNumbers {
+    pub rate: u32,
+    pub channels: u32,
+    pub block_size: u32,
+    pub level: u32,
+    pub depth: u32,
+}
+
+/// Samples beside their bytes: the code of their format, frames a second, and the timestamp in
+/// microseconds.
+#[repr(C)]
+#[derive(Clone, Copy, Debug, PartialEq, Eq)]
+pub struct SamplesHead {
+    pub format: u32,
+    pub rate: u32,
+    pub channels: u32,
+    pub frames: u32,
+    pub timestamp: i64,
 }
 
 /// A chunk beside its bytes: of type `key` where `key` is not 0, with a duration where
@@ -54,7 +80,7 @@ pub struct Reply {
     pub settled: u64,
 }
 
-/// What a turn ran: the task, the error of one that closed the decoder, how many outputs it shows
+/// What a turn ran: the task, the error of one that closed the codec, how many outputs it shows
 /// and how many promises it settled, and its entry's place.
 #[repr(C)]
 #[derive(Clone, Copy, Debug, PartialEq, Eq)]
@@ -77,6 +103,32 @@ pub struct Output {
     pub channels: u32,
     pub frames: u32,
     pub timestamp: i64,
+    pub size: u64,
+}
+
+/// An output of an encoder: its chunk's type, time and duration, which is 0 where it has none,
+/// whether it carries a decoder config, and how many bytes the chunk has.
+#[repr(C)]
+#[derive(Clone, Copy, Debug, PartialEq, Eq)]
+pub struct ChunkOutput {
+    pub status: u32,
+    pub key: u32,
+    pub has_duration: u32,
+    pub has_config: u32,
+    pub timestamp: i64,
+    pub duration: u64,
+    pub size: u64,
+}
+
+/// The decoder config that an output carries, and how many bytes the part of it has that is asked
+/// for.
+#[repr(C)]
+#[derive(Clone, Copy, Debug, PartialEq, Eq)]
+pub struct ConfigOutput {
+    pub status: u32,
+    pub rate: u32,
+    pub channels: u32,
+    pub has_description: u32,
     pub size: u64,
 }
 
@@ -157,4 +209,31 @@ pub(crate) fn format_code(format: SampleFormat) -> u32
         SampleFormat::S16Planar => 4,
         SampleFormat::S32Planar => 5,
     }
+}
+
+/// The format with a code.
+pub(crate) fn format_with(code: u32) -> Option<SampleFormat>
+    ensures { result ≡ format_with code }
+{
+    if code == 0 {
+        Some(SampleFormat::U8)
+    } else if code == 1 {
+        Some(SampleFormat::S16)
+    } else if code == 2 {
+        Some(SampleFormat::S32)
+    } else if code == 3 {
+        Some(SampleFormat::U8Planar)
+    } else if code == 4 {
+        Some(SampleFormat::S16Planar)
+    } else if code == 5 {
+        Some(SampleFormat::S32Planar)
+    } else {
+        None
+    }
+}
+
+pub(crate) fn flag(holds: bool) -> u32
+    ensures { result ≡ flag holds }
+{
+    if holds { 1 } else { 0 }
 }

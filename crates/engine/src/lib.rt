@@ -1,10 +1,10 @@
-//! An audio decoder with its coders, as a media runtime drives it: each call is one step of W3C
-//! WebCodecs, and what the last step showed is kept until the next one.
+//! Audio decoders and encoders with their coders, as a media runtime drives them: each call is one
+//! step of W3C WebCodecs, and what the last step showed is kept until the next one.
 #![tactic(auto)]
 
 mod answers;
+mod codec;
 mod coder;
-mod decoder;
 mod made;
 mod media;
 mod shown;
@@ -12,7 +12,10 @@ mod shown;
 mod tests;
 mod work;
 
-pub use answers::{AudioConfig, ChunkHead, Look, Output, Reply, Settled, Turn};
+pub use answers::{
+    AudioConfig, ChunkHead, ChunkOutput, ConfigOutput, EncoderNumbers, Look, Output, Reply,
+    SamplesHead, Settled, Turn,
+};
+pub use codec::{AudioCodec, may_be_sent};
 pub use coder::AudioCoder;
-pub use decoder::{AudioDecoder, may_be_sent};
-pub use work::DecoderWork;
+pub use work::WorkItem;

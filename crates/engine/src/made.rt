@@ -1,7 +1,9 @@
-// The steps of a decoder that has a codec.
+// The steps of a codec that has queues.
 ghost use Rattle.std.specs.Prelude.{◌≡◌, ◌≤◌, ◌+◌, ◌^◌, ◌↔◌, IsTrue, true};
-ghost use Rattle.codec_model.specs.Replay.{may_call};
+ghost use Rattle.codec_model.specs.declared.entry.Call.TheVariants as call;
+ghost use Rattle.codec_model.specs.Replay.{is_configured, may_call};
 ghost use Rattle.engine.specs.Steps.{IsUsedUp, Called, Turned, Worked, Started, Returned, LooksAt};
+ghost use Rattle.engine.specs.Steps.{handed_of};
 ghost use Rattle.engine.specs.Told.{no_reply, no_turn, no_look};
 
 use crate::answers::{
@@ -9,12 +11,13 @@ use crate::answers::{
     status_of,
 };
 use crate::coder::AudioCoder;
+use crate::media::medium_of;
 use crate::shown::{settled_count, told};
 use crate::work::end_of;
 use codec_live::{DoneJob, Job, LiveCore};
-use codec_model::{Call, Showing};
+use codec_model::{Call, CodecState, Handed, Showing};
 use std::alloc::Global;
-use wc_base::NoMemory;
+use wc_base::{NoMemory, Samples};
 
 pub(crate) fn no_reply(status: u32) -> Reply
     ensures { result ≡ no_reply status }
@@ -73,6 +76,41 @@ pub(crate) fn call_core(
         }
         Err(NoMemory) => no_reply(NO_MEMORY),
     }
+}
+
+fn is_configured(core: &LiveCore<AudioCoder>) -> bool
+    ensures { result ≡ is_configured core.now.control }
+{
+    match core.phase() {
+        CodecState::Configured => true,
+        CodecState::Unconfigured => false,
+        CodecState::Closed => false,
+    }
+}
+
+/// What becomes of samples that an encode is given.
+fn handed_of(core: &LiveCore<AudioCoder>, samples: Samples) -> Handed
+    ensures handed { result ≡ handed_of samples core.now.control }
+    ensures may { may_call (call.Encode result) core.now.control ≡ true }
+{
+    if is_configured(core) {
+        Handed::Cloned(medium_of(samples))
+    } else {
+        Handed::of_refused(false)
+    }
+}
+
+/// An encode.
+pub(crate) fn encode_core(
+    core: &mut LiveCore<AudioCoder>,
+    showing: &mut Showing,
+    samples: Samples,
+) -> Reply
+    ensures { Called (call.Encode (handed_of samples core.old.control))
+        core.old core.new showing.old showing.new result }
+{
+    let call = Call::Encode(handed_of(core, samples));
+    call_core(core, showing, &call)
 }
 
 /// The front event task.

@@ -3,14 +3,19 @@ ghost use Rattle.std.specs.Prelude.{◌≡◌, ◌∷◌, [], None, Some, length
 ghost use Rattle.codec_model.specs.Shown.{shown_of, units_in, ends_of, word_of_task};
 ghost use Rattle.engine.specs.Codes.{done, word_code, word_error};
 ghost use Rattle.engine.specs.Told.{task_outputs, resolved_by, Told, IsOutput, OfUnit, OutputTold};
+ghost use Rattle.engine.specs.Told.{IsPut, IsChunk, IsConfigOutput, OfCoded, ChunkTold, ConfigTold};
+ghost use Rattle.engine.specs.Told.{config_in, codec_string, description_of, no_chunk, no_config};
 ghost use Rattle.engine.specs.Told.{settled_of, unsettled, no_output};
 
 use crate::answers::{
-    DONE, Output, REFUSED, Settled, TOO_SMALL, Turn, error_code, exception_code, format_code,
+    ChunkOutput, ConfigOutput, DONE, Output, REFUSED, Settled, TOO_SMALL, Turn, error_code,
+    exception_code, flag, format_code,
 };
 use codec_model::{PromiseEnd, Showing, Task};
 use coder_api::Unit;
 use wc_base::{DomError, Samples};
+use wc_chunk::Chunk;
+use wc_config::AudioDecoderConfig;
 
 fn outputs_of_task(task: &Task) -> &[Unit]
     ensures { result.now ≡ task_outputs task.now }
@@ -228,16 +233,23 @@ pub(crate) fn told(showing: &Showing, place: u64) -> Turn
     }
 }
 
-fn put(samples: &Samples, room: &mut [u8]) -> Output
-    ensures { IsOutput samples.now room.old room.new result }
+/// Puts bytes at the front of some room, if they fit.
+fn put(bytes: &[u8], room: &mut [u8]) -> u32
+    ensures { IsPut bytes.now room.old room.new result }
 {
-    let bytes = samples.bytes.as_slice();
-    let status = if bytes.len() > room.len() {
+    if bytes.len() > room.len() {
         TOO_SMALL
     } else {
         room[..bytes.len()].copy_from_slice(bytes);
         DONE
-    };
+    }
+}
+
+fn put_samples(samples: &Samples, room: &mut [u8]) -> Output
+    ensures { IsOutput samples.now room.old room.new result }
+{
+    let bytes = samples.bytes.as_slice();
+    let status = put(bytes, room);
     Output {
         status,
         format: format_code(samples.shape.format),
@@ -245,6 +257,35 @@ fn put(samples: &Samples, room: &mut [u8]) -> Output
         channels: samples.shape.channels,
         frames: samples.shape.frames,
         timestamp: samples.shape.timestamp,
+        size: bytes.len() as u64,
+    }
+}
+
+fn put_chunk(chunk: &Chunk, config: &Option<AudioDecoderConfig>, room: &mut [u8]) -> ChunkOutput
+    ensures { IsChunk chunk.now config.now room.old room.new result }
+{
+    let bytes = chunk.bytes.as_slice();
+    let status = put(bytes, room);
+    ChunkOutput {
+        status,
+        key: flag(chunk.key),
+        has_duration: flag(chunk.duration.is_some()),
+        has_config: flag(config.is_some()),
+        timestamp: chunk.timestamp,
+        duration: chunk.duration.unwrap_or(0),
+        size: bytes.len() as u64,
+    }
+}
+
+fn put_part(config: &AudioDecoderConfig, bytes: &[u8], room: &mut [u8]) -> ConfigOutput
+    ensures { IsConfigOutput config.now bytes.now room.old room.new result }
+{
+    let status = put(bytes, room);
+    ConfigOutput {
+        status,
+        rate: config.rate,
+        channels: config.channels,
+        has_description: flag(config.description.is_some()),
         size: bytes.len() as u64,
     }
 }
@@ -267,7 +308,7 @@ fn put_unit(unit: Option<&Unit>, room: &mut [u8]) -> Output
     ensures { OfUnit (option_map (λ u. u.now) unit.entry) room.old room.new result }
 {
     match unit {
-        Some(Unit::Sound(samples)) => put(samples, room),
+        Some(Unit::Sound(samples)) => put_samples(samples, room),
         Some(Unit::Image(_)) => no_output(REFUSED),
         Some(Unit::Coded { .. }) => no_output(REFUSED),
         None => no_output(REFUSED),
@@ -279,4 +320,101 @@ pub(crate) fn put_output(showing: &Showing, number: u64, room: &mut [u8]) -> Out
     ensures { OutputTold (shown_of showing.now) number room.old room.new result }
 {
     put_unit(outputs_of(showing).get(number as usize), room)
+}
+
+pub(crate) fn no_chunk(status: u32) -> ChunkOutput
+    ensures { result ≡ no_chunk status }
+{
+    ChunkOutput {
+        status,
+        key: 0,
+        has_duration: 0,
+        has_config: 0,
+        timestamp: 0,
+        duration: 0,
+        size: 0,
+    }
+}
+
+fn put_coded(unit: Option<&Unit>, room: &mut [u8]) -> ChunkOutput
+    ensures { OfCoded (option_map (λ u. u.now) unit.entry) room.old room.new result }
+{
+    match unit {
+        Some(Unit::Coded { chunk, config }) => put_chunk(chunk, config, room),
+        Some(Unit::Sound(_)) => no_chunk(REFUSED),
+        Some(Unit::Image(_)) => no_chunk(REFUSED),
+        None => no_chunk(REFUSED),
+    }
+}
+
+/// Puts the bytes of a chunk that the last step showed at the front of some room.
+pub(crate) fn put_chunk_output(showing: &Showing, number: u64, room: &mut [u8]) -> ChunkOutput
+    ensures { ChunkTold (shown_of showing.now) number room.old room.new result }
+{
+    put_coded(outputs_of(showing).get(number as usize), room)
+}
+
+pub(crate) fn no_config(status: u32) -> ConfigOutput
+    ensures { result ≡ no_config status }
+{
+    ConfigOutput {
+        status,
+        rate: 0,
+        channels: 0,
+        has_description: 0,
+        size: 0,
+    }
+}
+
+fn config_in(unit: Option<&Unit>) -> Option<&AudioDecoderConfig>
+    ensures { option_map (λ c. c.now) result ≡ config_in (option_map (λ u. u.now) unit.entry) }
+{
+    match unit {
+        Some(Unit::Coded { chunk: _, config }) => match config {
+            Some(config) => Some(config),
+            None => None,
+        },
+        Some(Unit::Sound(_)) => None,
+        Some(Unit::Image(_)) => None,
+        None => None,
+    }
+}
+
+/// The decoder config that an output of the last step carries.
+fn config_at(showing: &Showing, number: u64) -> Option<&AudioDecoderConfig>
+    ensures { option_map (λ c. c.now) result
+        ≡ config_in (slice_get (units_in (shown_of showing.now).events) number) }
+{
+    config_in(outputs_of(showing).get(number as usize))
+}
+
+/// Puts the codec string of the decoder config of an output at the front of some room.
+pub(crate) fn put_codec(showing: &Showing, number: u64, room: &mut [u8]) -> ConfigOutput
+    ensures { ConfigTold codec_string
+        (shown_of showing.now) number room.old room.new result }
+{
+    match config_at(showing, number) {
+        Some(config) => put_part(config, config.codec.as_str().as_bytes(), room),
+        None => no_config(REFUSED),
+    }
+}
+
+fn description_of(config: &AudioDecoderConfig) -> &[u8]
+    ensures { result.now ≡ description_of config.now }
+{
+    match &config.description {
+        Some(description) => description.as_slice(),
+        None => &[],
+    }
+}
+
+/// Puts the description of the decoder config of an output at the front of some room.
+pub(crate) fn put_description(showing: &Showing, number: u64, room: &mut [u8]) -> ConfigOutput
+    ensures { ConfigTold description_of
+        (shown_of showing.now) number room.old room.new result }
+{
+    match config_at(showing, number) {
+        Some(config) => put_part(config, description_of(config), room),
+        None => no_config(REFUSED),
+    }
 }

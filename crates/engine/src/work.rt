@@ -1,4 +1,4 @@
-// Work items of a decoder, which may leave it for another thread.
+// Work items of a codec, which may leave it for another thread.
 ghost use Rattle.std.specs.Prelude.{◌≡◌, None, is_some, true};
 ghost use Rattle.codec_model.specs.Replay.{State};
 ghost use Rattle.codec_live.specs.Job.{IsJobOf, IsEndOf, missing_id};
@@ -10,16 +10,16 @@ use coder_api::{Coder, SlotBox};
 use std::alloc::Global;
 use wc_base::By;
 
-/// A work item that left its decoder, and its end; neither where none could begin.
+/// A work item that left its codec, and its end; neither where none could begin.
 #[derive(Drop)]
-pub struct DecoderWork {
+pub struct WorkItem {
     pub job: Option<Job<AudioCoder>>,
     pub done: Option<DoneJob<AudioCoder>>,
     pub alloc: Global,
 }
 
-impl DecoderWork {
-    /// Does the job that is there, on any thread: no decoder is at hand.
+impl WorkItem {
+    /// Does the job that is there, on any thread: no codec is at hand.
     pub fn perform(&mut self)
         ensures { Performs self.old self.new }
     {
@@ -75,7 +75,7 @@ fn with_box(alloc: Global, job: Job<AudioCoder>) -> Job<AudioCoder>
         return job;
     };
     let job = without_box(job);
-    match AudioCoder::of(alloc, id.codec) {
+    match AudioCoder::of(alloc, id.role, id.codec) {
         Some(coder) => give(job, coder),
         None => job,
     }

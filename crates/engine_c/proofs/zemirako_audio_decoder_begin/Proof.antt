@@ -3,13 +3,13 @@ use Rattle.engine_c.proofs.Steps.{◌≤◌, List, [], ◌∷◌, ◌++◌, refl
 use Rattle.engine_c.specs.contracts.zemirako_audio_decoder_begin as f
 use Rattle.engine_c.proofs.zemirako_audio_decoder_begin.Statement.{statement}
 use Rattle.engine_c.proofs.zemirako_audio_decoder_begin.Code as code
-use Rattle.engine.specs.contracts.decoder.AudioDecoder.open as g
-use Rattle.engine.proofs.decoder.AudioDecoder.open.Met.{met}
-use Rattle.engine.specs.contracts.decoder.AudioDecoder.{the_row as R}
-use Rattle.engine.proofs.decoder.AudioDecoder.TheLaws as row_laws
+use Rattle.engine.specs.contracts.codec.AudioCodec.open_decoder as g
+use Rattle.engine.proofs.codec.AudioCodec.open_decoder.Met.{met}
+use Rattle.engine.specs.contracts.codec.AudioCodec.{the_row as R}
+use Rattle.engine.proofs.codec.AudioCodec.TheLaws as row_laws
 use Rattle.std.specs.contracts.alloc.Global.{the_row as Heap}
 use Rattle.std.proofs.alloc.Global.TheLaws as heap_laws
-use Rattle.engine.specs.Steps.{Opened}
+use Rattle.engine.specs.Steps.{OpenedDecoder}
 
 abbrev stayed : Stays f.ended.signature.params f.ended.kept
 stayed = (stay_dropped (plain (λ _. Heap)) yes, (stay_dropped (plain (λ _. RawPtr)) yes, (stay_dropped (plain (λ _. u32)) yes, tt)))
@@ -37,10 +37,10 @@ zemirako_audio_decoder_begin_spec 𝓤 𝓛 𝓜 𝓡 wired =
     let z : G.Ghost = ((tt, tt, tt, (a.0, (a.1.1.0, tt)), (heap_vals a.0, (uint_vals w32 a.1.1.0, tt))), tt) in
     nothing ! $ move ! (2 ∷ 0 ∷ []) $ join ! $ move ! (2 ∷ 0 ∷ []) $ join ! $ nothing ! $ join ! $
     nothing ! $ move ! (1 ∷ 0 ∷ []) $ use2 𝓛 (raw (G.pre z)) (id⊢ 𝓤 _) $
-    calls_at ! (framed 𝓤 𝓛.H 𝓜 (tables 𝓤 𝓛.H 𝓜 𝓡 𝓡.env)) G (met 𝓤 𝓛 𝓜 𝓡 (code.calls-engine::decoder::AudioDecoder::open 𝓡.env wired)) z
+    calls_at ! (framed 𝓤 𝓛.H 𝓜 (tables 𝓤 𝓛.H 𝓜 𝓡 𝓡.env)) G (met 𝓤 𝓛 𝓜 𝓡 (code.calls-engine::codec::AudioCodec::open_decoder 𝓡.env wired)) z
     (and_then ! (get ! refl) (and_then ! (get ! refl) (no_more !))) (λ v.
     use1 𝓛 (later (some (λ (d : R.Denot). (‵ ftrue ⊛ ‵ (R.own_val d (v ∷ []))) ⊛
-    some (λ (ws : Lasts g.ended z.0.0 z.0.3). ‵ (lasts g.ended z.0.0 z.0.3 ws) ⊛ raw (fact 𝓤 (Opened a.1.1.0 d)))))) (id⊢ 𝓤 _) $
+    some (λ (ws : Lasts g.ended z.0.0 z.0.3). ‵ (lasts g.ended z.0.0 z.0.3 ws) ⊛ raw (fact 𝓤 (OpenedDecoder a.1.1.0 d)))))) (id⊢ 𝓤 _) $
     await ! tt $ pick ! (λ d. split ! $ split ! $ drop ! $
     -- [the decoder; the last values; the room]
     peeks ! R (Is R) (shows 𝓛 R) d (v ∷ []) (λ is.
@@ -51,6 +51,6 @@ zemirako_audio_decoder_begin_spec 𝓤 𝓛 𝓜 𝓡 wired =
     returns ! (look_at ! 0 refl) $ free_all ! refl $
     move ! (1 ∷ 0 ∷ []) $ use2 𝓛 (‵ (part_at R full_share d b o)) (part_in 𝓛 R refl full_share d b o v) $
     use1 𝓛 (raw ((c κs (y (block_ptr b o)).0.3).ensures nil tt (at_exit f.ended κs (y (block_ptr b o)).0.3 (tt, (tt, (tt, tt))))))
-    (gives 𝓤 (λ new. sem 𝓛 (lies_at R full_share (block_ptr b o) new)) (λ new. Opened a.1.1.0 new) d opened) $
+    (gives 𝓤 (λ new. sem 𝓛 (lies_at R full_share (block_ptr b o) new)) (λ new. OpenedDecoder a.1.1.0 new) d opened) $
     nothing ! $ nothing ! $ fjoin ! $ nothing ! $ fjoin ! $ nothing ! $ fjoin ! $ feq_i ! (List Val) (vunit ∷ []) (vunit ∷ []) refl $ nothing ! $ keep ! (0 ∷ 2 ∷ 1 ∷ 3 ∷ []) $
     by ! (leaves 𝓛 f.ended stayed c (y (block_ptr b o)) vunit tt (tt, (tt, (tt, tt))) (tt, (tt, (tt, tt))))))))))))

@@ -1,15 +1,15 @@
--- The export lends what lies at its handle to the decoder's own function, for the call, and gives the handle back.
+-- The export lends what lies at its handle to the codec's own function, for the call, and gives the handle back.
 use Rattle.engine_c.proofs.Steps.{◌≡◌, ℕ, List, [], ◌∷◌, ◌++◌, refl, MutBor, w32, w64, proved, leaves, WpFn, full_share, id⊢, ftrue, flft, flent, named, vptr, fact, tables, sem, ‵, raw, prop, ◌⊛◌, some, later, ◌$◌, ◌∵◌, !, qed, move, keep, use1, use2, use3, split, join, fsplit, fjoin, feq_l, pick, await, regoal, by, enter, of_opd, addr, from, stop, fld, hop, no_more, and_then, returns, alloc_all, pass_all, free_all, look_at, look_in_at, get, get_in, through, sets, lands_as, agg, sub, whole, Body, lft_new, lft_end, u8, u32, u64, RawPtr, yes, Is, shows, uint_vals, uint_Tells, uint_Lawful, lends_ref, ref_back, mem, part_at, Ptr, block_ptr, lies_at, in_a_block, rawptr_vals, rawptr_Tells, MutRef, mut_vals, ShrRef, shr_vals, shr_Tells, ShrSlice, shr_slice_vals, shr_slice_Tells, shr_slice_Lawful, MutSlice, mut_slice_vals, mut_slice_Tells, mut_slice_Lawful, plain, shr_ref_to, shr_slice_of, mut_slice_of, nothing, heard, peeks, calls_at, lasts, Lasts, at_exit, triple_of, Stays, walk_of, stay_dropped, Goes-dropped, gave_slice, Goes-gave_slice, framed, gives}
 use Rattle.engine_c.specs.contracts.zemirako_audio_decoder_configure as f
 use Rattle.engine_c.proofs.zemirako_audio_decoder_configure.Statement.{statement}
 use Rattle.engine_c.proofs.zemirako_audio_decoder_configure.Code as code
-use Rattle.engine.specs.contracts.decoder.AudioDecoder.configure as g
-use Rattle.engine.proofs.decoder.AudioDecoder.configure.Met.{met}
-use Rattle.engine.specs.contracts.decoder.AudioDecoder.{the_row as R}
+use Rattle.engine.specs.contracts.codec.AudioCodec.configure_decoder as g
+use Rattle.engine.proofs.codec.AudioCodec.configure_decoder.Met.{met}
+use Rattle.engine.specs.contracts.codec.AudioCodec.{the_row as R}
 use Rattle.engine.specs.contracts.answers.AudioConfig.{the_row as AudioConfig}
 use Rattle.engine.specs.contracts.answers.Reply.{the_row as Out}
 use Rattle.engine.proofs.answers.Reply.TheLaws as out_laws
-use Rattle.engine.specs.Steps.{Configures, if_given}
+use Rattle.engine.specs.Steps.{ConfiguresDecoder, if_given}
 
 abbrev stayed : Stays f.ended.signature.params f.ended.kept
 stayed = (stay_dropped (plain (λ _. RawPtr)) yes, (stay_dropped (shr_ref_to (0 ∷ []) tt (plain (λ _. AudioConfig))) yes, (stay_dropped (shr_slice_of (1 ∷ []) tt (plain (λ _. u8))) yes, (stay_dropped (shr_slice_of (2 ∷ []) tt (plain (λ _. u8))) yes, tt))))
@@ -35,10 +35,10 @@ zemirako_audio_decoder_configure_spec 𝓤 𝓛 𝓜 𝓡 wired =
     let G = triple_of 𝓛 g.signature (g.spec 𝓛 𝓜.mem 𝓡.returns) in
     let z : G.Ghost = (((α ∷ [], (κs.0, (κs.1.0, (κs.1.1.0, tt)))), (full_share, (qs.0, (qs.1.0, (qs.1.1.0, tt)))), tt, (r, (a.1.0, (a.1.1.0, (a.1.1.1.0, tt)))), (mut_vals r, (shr_vals a.1.0, (shr_slice_vals a.1.1.0, (shr_slice_vals a.1.1.1.0, tt))))), tt) in
     nothing ! $ move ! (6 ∷ 0 ∷ []) $ join ! $ move ! (5 ∷ 0 ∷ []) $ join ! $ move ! (4 ∷ 0 ∷ []) $ join ! $ move ! (1 ∷ 0 ∷ []) $ join ! $ nothing ! $ move ! (6 ∷ 0 ∷ []) $ join ! $ move ! (5 ∷ 0 ∷ []) $ join ! $ move ! (4 ∷ 0 ∷ []) $ join ! $ move ! (3 ∷ 0 ∷ []) $ join ! $ join ! $ nothing ! $ move ! (1 ∷ 0 ∷ []) $ use2 𝓛 (raw (G.pre z)) (id⊢ 𝓤 _) $
-    calls_at ! (framed 𝓤 𝓛.H 𝓜 (tables 𝓤 𝓛.H 𝓜 𝓡 𝓡.env)) G (met 𝓤 𝓛 𝓜 𝓡 (code.calls-engine::decoder::AudioDecoder::configure 𝓡.env wired)) z
+    calls_at ! (framed 𝓤 𝓛.H 𝓜 (tables 𝓤 𝓛.H 𝓜 𝓡 𝓡.env)) G (met 𝓤 𝓛 𝓜 𝓡 (code.calls-engine::codec::AudioCodec::configure_decoder 𝓡.env wired)) z
     (and_then ! (get ! refl) (and_then ! (get ! refl) (and_then ! (get ! refl) (and_then ! (get ! refl) (no_more !))))) (λ v.
     use1 𝓛 (later (some (λ (x : Out.Denot). ((‵ (flft (α ∷ []) full_share) ⊛ ‵ (flft κs.0 qs.0) ⊛ ‵ (flft κs.1.0 qs.1.0) ⊛ ‵ (flft κs.1.1.0 qs.1.1.0) ⊛ ‵ ftrue) ⊛ ‵ (Out.own_val x (v ∷ []))) ⊛
-    some (λ (ws : Lasts g.ended z.0.0 z.0.3). ‵ (lasts g.ended z.0.0 z.0.3 ws) ⊛ raw (fact 𝓤 (Configures a.1.0.now.rate a.1.0.now.channels a.1.1.0.now (if_given a.1.0.now.has_description a.1.1.1.0.now) value ws.0 x)))))) (id⊢ 𝓤 _) $
+    some (λ (ws : Lasts g.ended z.0.0 z.0.3). ‵ (lasts g.ended z.0.0 z.0.3 ws) ⊛ raw (fact 𝓤 (ConfiguresDecoder a.1.0.now.rate a.1.0.now.channels a.1.1.0.now (if_given a.1.0.now.has_description a.1.1.1.0.now) value ws.0 x)))))) (id⊢ 𝓤 _) $
     await ! tt $ pick ! (λ x. split ! $ split ! $ split ! $ lft_end ! tt $
     move ! (2 ∷ []) $ peeks ! Out (Is Out) (shows 𝓛 Out) x (v ∷ []) (λ is.
     lands_as ! refl refl ((out_laws.the_row_laws.lawful 𝓛).typed x _ is).0 $
@@ -46,5 +46,5 @@ zemirako_audio_decoder_configure_spec 𝓤 𝓛 𝓜 𝓡 wired =
     fsplit ! $ fsplit ! $ move ! (4 ∷ 6 ∷ 0 ∷ []) $ use3 𝓛 (later (‵ (part_at R full_share ws.0 b o))) (ref_back 𝓛 R (α ∷ []) γ ws.0 b o) $ await ! tt $
     returns ! (look_at ! 0 refl) $ free_all ! refl $
     use1 𝓛 (raw ((c κs (y (block_ptr b o)).0.3).ensures value x (at_exit f.ended κs (y (block_ptr b o)).0.3 (tt, (tt, (tt, (tt, tt)))))))
-    (gives 𝓤 (λ new. sem 𝓛 (lies_at R full_share (block_ptr b o) new)) (λ new. Configures a.1.0.now.rate a.1.0.now.channels a.1.1.0.now (if_given a.1.0.now.has_description a.1.1.1.0.now) value new x) ws.0 does) $
+    (gives 𝓤 (λ new. sem 𝓛 (lies_at R full_share (block_ptr b o) new)) (λ new. ConfiguresDecoder a.1.0.now.rate a.1.0.now.channels a.1.1.0.now (if_given a.1.0.now.has_description a.1.1.1.0.now) value new x) ws.0 does) $
     nothing ! $ nothing ! $ fjoin ! $ nothing ! $ fjoin ! $ nothing ! $ fjoin ! $ nothing ! $ fjoin ! $ keep ! (5 ∷ 0 ∷ 4 ∷ 1 ∷ []) $ by ! (leaves 𝓛 f.ended stayed c (y (block_ptr b o)) v x (tt, (tt, (tt, (tt, tt)))) (tt, (tt, (tt, (tt, tt)))))))))))))))
