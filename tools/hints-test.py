@@ -153,7 +153,7 @@ def check_words(program):
     with open(os.path.join(TOP, "include", "zemirako.h"), encoding="utf-8") as it:
         version = re.search(r'^#define ZEMIRAKO_VERSION "(.*)"$', it.read(), re.M)[1]
     bad = 0
-    for words in ([], ["--help"], ["--version"], ["replay"], ["replay", "--help"], ["run", "s.json", "--workers", "2"]):
+    for words in ([], ["--help"], ["--version"], ["replay"], ["replay", "--help"], ["run", "s.json", "--workers", "17"], ["check", "s.json"]):
         done = subprocess.run([program, *words], capture_output=True, text=True, timeout=60)
         if (done.returncode, done.stdout) != (2, USAGE) or not done.stderr.startswith("wcrun %s\n" % version) or "wcrun replay FILE" not in done.stderr:
             print("%s: status %d, %s%s" % (words, done.returncode, done.stdout, done.stderr[:100]))

@@ -2,7 +2,8 @@
 # Replays scripts of many steps, and prints what each costs: tools/measure-steps.sh [PROGRAM]
 # shown: each chunk is decoded and shown before the next comes. queued: all decodes are called before any work begins.
 # flushes: all steps flush, and no work begins before. taken: half of the steps decode, each shown before the next, and the
-# others then take what was shown. encoded: all encodes of one sound are called before any work begins.
+# others then take what was shown. encoded: all encodes of one sound are called before any work begins. checked: the report of
+# `shown`, judged by `check`.
 # Wants /usr/bin/time and valgrind.
 cd "$(dirname "$0")/.." || exit 2
 program=$(realpath "${1:-crates/wcrun/out/wcrun}") || exit 2
@@ -48,12 +49,22 @@ encodes() {
   }'
 }
 
+# cost LABEL STEPS WORD..: what the program takes with these words
+cost() {
+  label=$1 steps=$2
+  shift 2
+  took=$(/usr/bin/time -f '%e s, %M KB' "$program" "$@" 2>&1 > "$work/written" | tail -1)
+  count=$(valgrind --tool=callgrind --callgrind-out-file="$work/out" "$program" "$@" 2>&1 > /dev/null | awk '/Collected/ {print $4}')
+  printf '%-8s %7d steps: %s, %s instructions, %d bytes written\n' "$label" "$steps" "$took" "$count" "$(stat -c %s "$work/written")"
+}
+
 # measure KIND STEPS
 measure() {
   if [ "$1" = encoded ]; then encodes "$2"; else script "$1" "$2"; fi > "$work/script.json"
-  cost=$(/usr/bin/time -f '%e s, %M KB' "$program" replay "$work/script.json" 2>&1 > "$work/report")
-  count=$(valgrind --tool=callgrind --callgrind-out-file="$work/out" "$program" replay "$work/script.json" 2>&1 > /dev/null | awk '/Collected/ {print $4}')
-  printf '%-8s %7d steps: %s, %s instructions, report of %d bytes\n' "$1" "$2" "$cost" "$count" "$(stat -c %s "$work/report")"
+  cost "$1" "$2" replay "$work/script.json"
+  [ "$1" = shown ] || return
+  cp "$work/written" "$work/report"
+  cost checked "$2" check "$work/script.json" "$work/report"
 }
 
 for steps in 25000 50000 100000; do measure shown "$steps"; done
